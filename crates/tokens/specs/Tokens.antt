@@ -1,0 +1,224 @@
+-- The rules of the tokens, mode by mode, in the order of src/tokenizer/mod.rs. Above a rule stands its pattern as the Rust has it.
+-- Assumes nothing.
+use Prim.Native.Nat.{ℕ}
+use Prim.Native.String.{String}
+use mathlib.Core.Bool.{Bool, false, not, _||_}
+use mathlib.Core.List.{List, [], _∷_, _++_, map}
+use lib.Dec.{eqb}
+use Rattle.patterns.specs.Utf8.{Class, between}
+use Rattle.patterns.specs.Pattern.{Pat, byte, char, seq, alt, star, literal, plus, optional, at-most-two, row}
+use Rattle.tokens.specs.Ascii.{ascii}
+use Rattle.tokens.specs.Unicode.{in-runs, digits-16}
+use Rattle.tokens.specs.Kinds.{PATTERN-IDENT, PATTERN-COUNT, PATTERN-OFFSET, PATTERN-LENGTH, IDENT, FLOAT-LIT, INTEGER-LIT, STRING-LIT, REGEXP, COMMENT, WHITESPACE, NEWLINE, HEX-BYTE}
+
+-- a kind and its pattern
+pub record Rule : Type 0 where
+  pub kind : ℕ
+  pub pattern : Pat
+
+abbrev pub rule : ℕ → Pat → Rule
+rule k r = record { kind = k; pattern = r }
+
+-- a keyword: its kind and its spelling
+pub record Word : Type 0 where
+  pub kind : ℕ
+  pub spelling : List ℕ
+
+abbrev pub word : ℕ → String → Word
+word k s = record { kind = k; spelling = ascii s }
+
+-- What a stream is opened with: the decimal digits, by the first of each run of ten, and the keywords.
+pub record Tables : Type 0 where
+  pub digits : List ℕ
+  pub words : List Word
+
+-- kinds 1 to 40, in byte order of spelling (mod.rs has `xor` before `with`)
+unfoldable pub words-1 : List Word
+words-1 =
+    word 1 "all" ∷ word 2 "and" ∷ word 3 "any" ∷ word 4 "ascii" ∷ word 5 "at" ∷
+    word 6 "base64" ∷ word 7 "base64wide" ∷ word 8 "condition" ∷ word 9 "contains" ∷ word 10 "defined" ∷
+    word 11 "endswith" ∷ word 12 "entrypoint" ∷ word 13 "false" ∷ word 14 "filesize" ∷ word 15 "for" ∷
+    word 16 "fullword" ∷ word 17 "global" ∷ word 18 "icontains" ∷ word 19 "iendswith" ∷ word 20 "iequals" ∷
+    word 21 "import" ∷ word 22 "in" ∷ word 23 "include" ∷ word 24 "istartswith" ∷ word 25 "matches" ∷
+    word 26 "meta" ∷ word 27 "nocase" ∷ word 28 "none" ∷ word 29 "not" ∷ word 30 "of" ∷
+    word 31 "or" ∷ word 32 "private" ∷ word 33 "rule" ∷ word 34 "startswith" ∷ word 35 "strings" ∷
+    word 36 "them" ∷ word 37 "true" ∷ word 38 "wide" ∷ word 39 "with" ∷ word 40 "xor" ∷ []
+
+abbrev pub tables-1 : Tables
+tables-1 = record { digits = digits-16; words = words-1 }
+
+-- Classes.
+
+abbrev pub one-of : List ℕ → Class
+one-of [] v = false
+one-of (x ∷ xs) v = eqb v x || one-of xs v
+
+-- [^..]
+abbrev pub none-of : String → Class
+none-of s v = not (one-of (ascii s) v)
+
+-- [[:alpha:]]
+abbrev pub letter : Class
+letter v = between 65 90 v || between 97 122 v
+
+-- [0-9], [0-7], [a-fA-F0-9]
+abbrev pub dec : Class
+dec = between 48 57
+
+abbrev pub oct : Class
+oct = between 48 55
+
+abbrev pub hex : Class
+hex v = between 97 102 v || between 65 70 v || dec v
+
+abbrev pub underscore : Class
+underscore v = eqb v 95
+
+-- a class with the underscore added
+abbrev pub or-underscore : Class → Class
+or-underscore p v = p v || underscore v
+
+-- [[:alpha:]]|_
+abbrev pub word-start : Class
+word-start = or-underscore letter
+
+-- [[:alpha:]]|\d|_
+abbrev pub word-part : List ℕ → Class
+word-part digits v = word-start v || in-runs digits v
+
+-- [?0-9a-fA-F]
+abbrev pub hex-or-mark : Class
+hex-or-mark v = eqb v 63 || hex v
+
+-- the blank run's characters
+abbrev pub blank : Class
+blank v = eqb v 0x20 || eqb v 0x9 || eqb v 0xA0 || between 0x2000 0x200A v || eqb v 0x202F || eqb v 0x205F
+
+-- Small patterns.
+
+-- a spelling
+abbrev pub text : String → Pat
+text s = literal (ascii s)
+
+-- [..], one byte of those
+abbrev pub is : String → Pat
+is s = byte (one-of (ascii s))
+
+-- \\. (a backslash and any byte but LF)
+abbrev pub pair : Pat
+pair = seq (is "\\") (byte (none-of "\n"))
+
+-- ([[:alpha:]]|\d|_)*
+abbrev pub tail : List ℕ → Pat
+tail digits = star (char (word-part digits))
+
+-- ([0-9]+_*)+ and likewise for the other digits (Shapes.antt: the same texts)
+abbrev pub number : Class → Pat
+number p = seq (byte p) (star (byte (or-underscore p)))
+
+-- The rules.
+
+abbrev pub spelled : Word → Rule
+spelled w = rule (w .kind) (literal (w .spelling))
+
+abbrev pub sign : ℕ → String → Rule
+sign k s = rule k (text s)
+
+-- kinds 41 to 67
+abbrev pub operators : List Rule
+operators =
+    sign 41 "<<" ∷ sign 42 ">>" ∷ sign 43 "==" ∷ sign 44 "!=" ∷ sign 45 "<=" ∷ sign 46 ">=" ∷ sign 47 "<" ∷ sign 48 ">" ∷
+    sign 49 "&" ∷ sign 50 "*" ∷ sign 51 "\\" ∷ sign 52 ":" ∷ sign 53 "," ∷ sign 54 "." ∷ sign 55 "=" ∷ sign 56 "+" ∷
+    sign 57 "-" ∷ sign 58 "%" ∷ sign 59 "|" ∷ sign 60 "^" ∷ sign 61 "~" ∷
+    sign 62 "{" ∷ sign 63 "}" ∷ sign 64 "(" ∷ sign 65 ")" ∷ sign 66 "[" ∷ sign 67 "]" ∷ []
+
+-- \$ ([[:alpha:]]|\d|_)* and likewise for # @ !
+abbrev pub marked : String → List ℕ → Pat
+marked s digits = seq (is s) (tail digits)
+
+-- ([[:alpha:]]|_) ([[:alpha:]]|\d|_)*
+abbrev pub identifier : List ℕ → Pat
+identifier digits = seq (byte word-start) (tail digits)
+
+-- ([0-9]+_*)+ \. ([0-9_]+_*)+
+abbrev pub float : Pat
+float = row (number dec ∷ is "." ∷ plus (byte (or-underscore dec)) ∷ [])
+
+-- 0x([a-fA-F0-9]+_*)+ | 0o([0-7]+_*)+ | ([0-9]+_*)+(KB|MB)?
+abbrev pub integer : Pat
+integer = alt (row (text "0x" ∷ number hex ∷ [])) (alt (row (text "0o" ∷ number oct ∷ [])) (row (number dec ∷ optional (alt (text "KB") (text "MB")) ∷ [])))
+
+-- " ( \\. | [^"\n\\] )* "
+abbrev pub string : Pat
+string = row (is "\"" ∷ star (alt pair (byte (none-of "\"\n\\"))) ∷ is "\"" ∷ [])
+
+-- """ ( \\. | [^"\\] )* """
+abbrev pub multi-line-string : Pat
+multi-line-string = row (text "\"\"\"" ∷ star (alt pair (byte (none-of "\"\\"))) ∷ text "\"\"\"" ∷ [])
+
+-- / (\\.|[^*/\\\n]) ( \\. | [^\\/\n] )* / [[:alpha:]]{0,2}
+abbrev pub regexp : Pat
+regexp = row (is "/" ∷ alt pair (byte (none-of "*/\\\n")) ∷ star (alt pair (byte (none-of "\\/\n"))) ∷ is "/" ∷ at-most-two (byte letter) ∷ [])
+
+-- /\* [^*]* \*+ ( [^/*] [^*]* \*+ )* / where `any` takes one of a class: a byte, or a well-formed character
+abbrev pub block-comment : (Class → Pat) → Pat
+block-comment any =
+    let others : Pat = star (any (none-of "*")) in
+    let stars : Pat = plus (is "*") in
+    row (text "/*" ∷ others ∷ stars ∷ star (row (any (none-of "/*") ∷ others ∷ stars ∷ [])) ∷ is "/" ∷ [])
+
+-- //[^\n]*
+abbrev pub line-comment : Pat
+line-comment = row (text "//" ∷ star (byte (none-of "\n")) ∷ [])
+
+-- [ \t\u{a0}\u{2000} .. \u{200A}\u{202f}\u{205f}]+
+abbrev pub blanks : Pat
+blanks = plus (char blank)
+
+abbrev pub newlines : List Rule
+newlines = sign NEWLINE "\n" ∷ sign NEWLINE "\r" ∷ sign NEWLINE "\r\n" ∷ []
+
+-- `NormalToken`, over the digits that a word may hold, the keywords left out
+unfoldable pub fixed-rules : List ℕ → List Rule
+fixed-rules digits =
+    operators
+    ++ (rule PATTERN-IDENT (marked "$" digits)
+    ∷ rule PATTERN-COUNT (marked "#" digits)
+    ∷ rule PATTERN-OFFSET (marked "@" digits)
+    ∷ rule PATTERN-LENGTH (marked "!" digits)
+    ∷ rule IDENT (identifier digits)
+    ∷ rule FLOAT-LIT float
+    ∷ rule INTEGER-LIT integer
+    ∷ rule STRING-LIT string
+    ∷ rule STRING-LIT multi-line-string
+    ∷ rule REGEXP regexp
+    ∷ rule COMMENT (block-comment byte)
+    ∷ rule COMMENT line-comment
+    ∷ rule WHITESPACE blanks
+    ∷ newlines)
+
+-- `NormalToken`
+unfoldable pub normal-rules : Tables → List Rule
+unfolding words-1 digits-16 fixed-rules
+normal-rules t = map spelled (t .words) ++ fixed-rules (t .digits)
+
+-- `HexPatternToken`
+unfoldable pub pattern-rules : List Rule
+pattern-rules =
+    rule HEX-BYTE (row (optional (is "~") ∷ byte hex-or-mark ∷ byte hex-or-mark ∷ []))
+    ∷ sign 59 "|"
+    ∷ sign 64 "("
+    ∷ sign 65 ")"
+    ∷ sign 66 "["
+    ∷ sign 67 "]"
+    ∷ rule WHITESPACE blanks
+    ∷ newlines
+    ++ (rule COMMENT (block-comment char) ∷ rule COMMENT line-comment ∷ [])
+
+-- `HexJumpToken`; its integers: 0x[a-fA-F0-9]+ | 0o[0-7]+ | [0-9]+
+unfoldable pub jump-rules : List Rule
+jump-rules =
+    sign 57 "-"
+    ∷ rule INTEGER-LIT (alt (row (text "0x" ∷ plus (byte hex) ∷ [])) (alt (row (text "0o" ∷ plus (byte oct) ∷ [])) (plus (byte dec))))
+    ∷ rule WHITESPACE blanks
+    ∷ newlines
