@@ -4,3 +4,4 @@ pub mod Pattern
 pub mod Bools
 pub mod Meaning
 pub mod Longest
+pub mod Walk
