@@ -163,7 +163,7 @@ module _ (f : Class) where
 -- One character.
 
 -- the walk over a character of the class f and then r, by what stands at the front
-char-then : Class → Pat → Front → List ℕ → ℕ → ℕ → ℕ
+unfoldable pub char-then : Class → Pat → Front → List ℕ → ℕ → ℕ → ℕ
 char-then f r (whole v n) xs k b = cond (f v) (walk r (drop n xs) (k + n) b) b
 char-then f r broken xs k b = b
 
@@ -206,7 +206,7 @@ module _ (f : Class) (r : Pat) where
   abbrev pub Opens : Pat → ℕ → Type 0
   Opens q x = deriv x q ≡ follow (char-after f x (lead x)) r
 
-  walk-char : (q : Pat) (xs : List ℕ) (k b : ℕ) → Opens q (getD xs 0 0) → walk q xs k b ≡ char-then f r (decode xs) xs k (cond (nullable q) k b)
+  pub walk-char : (q : Pat) (xs : List ℕ) (k b : ℕ) → Opens q (getD xs 0 0) → walk q xs k b ≡ char-then f r (decode xs) xs k (cond (nullable q) k b)
   unfolding walk decode char-then
   walk-char q [] k b e = refl
   walk-char q (x ∷ xs) k b e = ap (λ (d : Pat). walk d xs (suc k) (cond (nullable q) k b)) e ∙ walk-lead (lead x) x xs k (cond (nullable q) k b)

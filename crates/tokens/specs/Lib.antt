@@ -5,3 +5,7 @@ pub mod Unicode
 pub mod Tokens
 pub mod Scan
 pub mod Marked
+pub mod BestLaws
+pub mod ScanLaws
+pub mod ListLaws
+pub mod Examples
