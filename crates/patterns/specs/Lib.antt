@@ -2,6 +2,8 @@
 pub mod Utf8
 pub mod Pattern
 pub mod Bools
+pub mod Utf8Laws
 pub mod Meaning
 pub mod Longest
 pub mod Walk
+pub mod Agree

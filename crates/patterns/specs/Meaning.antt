@@ -18,11 +18,12 @@ Same a r = (u : List ℕ) → Matches a u ↔ Matches r u
 
 -- Parts of a text may be exchanged for what means the same.
 
+-- one way
+pub split-map : {P P′ Q Q′ : List ℕ → Type 0} → ((u : List ℕ) → P u → P′ u) → ((u : List ℕ) → Q u → Q′ u) → (u : List ℕ) → Split P Q u → Split P′ Q′ u
+split-map f g u m = record { front = m .front; back = m .back; joined = m .joined; first = f (m .front) (m .first); second = g (m .back) (m .second) }
+
 pub split-means : {P P′ Q Q′ : List ℕ → Type 0} → ((u : List ℕ) → P u ↔ P′ u) → ((u : List ℕ) → Q u ↔ Q′ u) → (u : List ℕ) → Split P Q u ↔ Split P′ Q′ u
-split-means f g u = (
-  λ m. record { front = m .front; back = m .back; joined = m .joined; first = f (m .front) .0 (m .first); second = g (m .back) .0 (m .second) },
-  λ m. record { front = m .front; back = m .back; joined = m .joined; first = f (m .front) .1 (m .first); second = g (m .back) .1 (m .second) },
-)
+split-means f g u = (split-map (λ s. f s .0) (λ t. g t .0) u, split-map (λ s. f s .1) (λ t. g t .1) u)
 
 pub sum-means : {A B C D : Type 0} → A ↔ C → B ↔ D → (A ⊎ B) ↔ (C ⊎ D)
 sum-means f g = (⊎-elim (λ a. inl (f .0 a)) (λ b. inr (g .0 b)), ⊎-elim (λ c. inl (f .1 c)) (λ d. inr (g .1 d)))
@@ -77,6 +78,9 @@ follow-means (seq a b) r u = (
 )
 follow-means (alt a b) r u = Iff·rfl
 follow-means (star a) r u = Iff·rfl
+
+pub follow-same : (a a′ r r′ : Pat) → Same a a′ → Same r r′ → Same (follow a r) (follow a′ r′)
+follow-same a a′ r r′ f g u = Iff·trans (follow-means a r u) (Iff·trans (split-means f g u) (Iff·symm (follow-means a′ r′ u)))
 
 -- The empty text.
 

@@ -13,7 +13,7 @@ use Rattle.tokens.specs.declared.Mode.{Mode}
 use Rattle.tokens.specs.declared.Mode.the-variants.{Normal, HexPattern, HexJump}
 use Rattle.tokens.specs.Ascii.{ascii}
 use Rattle.tokens.specs.Unicode.{digits-16, white}
-use Rattle.tokens.specs.Tokens.{Rule, tables-1, blank}
+use Rattle.tokens.specs.Tokens.{Rule, tables-1, letter, dec, oct, hex, word-start, hex-or-mark, blank}
 use Rattle.tokens.specs.Scan.{Hit, best, rules}
 
 -- the kind of a text that is one token of the mode, and 0 for any other
@@ -99,11 +99,23 @@ never-empty Normal = refl
 never-empty HexPattern = refl
 never-empty HexJump = refl
 
--- The Unicode tables. White_Space has 25 characters and the blank run 16, of which U+0085 and U+3000 are none.
+-- The classes, as the list of their members from the last to the first.
 members : ℕ → Class → List ℕ
 members zero f = []
 members (suc n) f = elim (f n) [ true ↦ n ∷ members n f | false ↦ members n f ]
 
+classes : map (members 256) (dec ∷ oct ∷ hex ∷ hex-or-mark ∷ letter ∷ word-start ∷ [])
+    ≡ ascii "9876543210"
+    ∷ ascii "76543210"
+    ∷ ascii "fedcbaFEDCBA9876543210"
+    ∷ ascii "fedcbaFEDCBA?9876543210"
+    ∷ ascii "zyxwvutsrqponmlkjihgfedcbaZYXWVUTSRQPONMLKJIHGFEDCBA"
+    ∷ ascii "zyxwvutsrqponmlkjihgfedcba_ZYXWVUTSRQPONMLKJIHGFEDCBA"
+    ∷ []
+unfolding members
+classes = refl
+
+-- White_Space has 25 characters, the blank run 16: U+0085 and U+3000 are not among these.
 white-space : members 0x3100 white
     ≡ 0x3000 ∷ 0x205F ∷ 0x202F ∷ 0x2029 ∷ 0x2028 ∷ 0x200A ∷ 0x2009 ∷ 0x2008 ∷ 0x2007 ∷ 0x2006 ∷ 0x2005 ∷ 0x2004 ∷ 0x2003 ∷
     0x2002 ∷ 0x2001 ∷ 0x2000 ∷ 0x1680 ∷ 0xA0 ∷ 0x85 ∷ 0x20 ∷ 0xD ∷ 0xC ∷ 0xB ∷ 0xA ∷ 0x9 ∷ []

@@ -1,11 +1,13 @@
--- What a token is.
+-- What a token is: the definitions (Ascii, Kinds, Unicode, Tokens, Scan), the examples that pin them, and their laws.
 pub mod Ascii
 pub mod Kinds
 pub mod Unicode
 pub mod Tokens
 pub mod Scan
 pub mod Marked
+pub mod Examples
+pub mod Shapes
 pub mod BestLaws
 pub mod ScanLaws
 pub mod ListLaws
-pub mod Examples
+pub mod DigitTables

@@ -19,30 +19,41 @@ pub record Rule : Type 0 where
 abbrev pub rule : ℕ → Pat → Rule
 rule k r = record { kind = k; pattern = r }
 
--- a keyword: its kind and its spelling
-pub record Word : Type 0 where
+-- a kind that is one spelling: a keyword, an operator, a newline
+pub record Spelling : Type 0 where
   pub kind : ℕ
-  pub spelling : List ℕ
+  pub bytes : List ℕ
 
-abbrev pub word : ℕ → String → Word
-word k s = record { kind = k; spelling = ascii s }
+abbrev pub spell : ℕ → String → Spelling
+spell k s = record { kind = k; bytes = ascii s }
+
+abbrev pub spelled : Spelling → Rule
+spelled w = rule (w .kind) (literal (w .bytes))
 
 -- What a stream is opened with: the decimal digits, by the first of each run of ten, and the keywords.
 pub record Tables : Type 0 where
   pub digits : List ℕ
-  pub words : List Word
+  pub words : List Spelling
 
 -- kinds 1 to 40, in byte order of spelling (mod.rs has `xor` before `with`)
-unfoldable pub words-1 : List Word
+unfoldable pub words-1 : List Spelling
 words-1 =
-    word 1 "all" ∷ word 2 "and" ∷ word 3 "any" ∷ word 4 "ascii" ∷ word 5 "at" ∷
-    word 6 "base64" ∷ word 7 "base64wide" ∷ word 8 "condition" ∷ word 9 "contains" ∷ word 10 "defined" ∷
-    word 11 "endswith" ∷ word 12 "entrypoint" ∷ word 13 "false" ∷ word 14 "filesize" ∷ word 15 "for" ∷
-    word 16 "fullword" ∷ word 17 "global" ∷ word 18 "icontains" ∷ word 19 "iendswith" ∷ word 20 "iequals" ∷
-    word 21 "import" ∷ word 22 "in" ∷ word 23 "include" ∷ word 24 "istartswith" ∷ word 25 "matches" ∷
-    word 26 "meta" ∷ word 27 "nocase" ∷ word 28 "none" ∷ word 29 "not" ∷ word 30 "of" ∷
-    word 31 "or" ∷ word 32 "private" ∷ word 33 "rule" ∷ word 34 "startswith" ∷ word 35 "strings" ∷
-    word 36 "them" ∷ word 37 "true" ∷ word 38 "wide" ∷ word 39 "with" ∷ word 40 "xor" ∷ []
+    spell 1 "all" ∷ spell 2 "and" ∷ spell 3 "any" ∷ spell 4 "ascii" ∷ spell 5 "at" ∷
+    spell 6 "base64" ∷ spell 7 "base64wide" ∷ spell 8 "condition" ∷ spell 9 "contains" ∷ spell 10 "defined" ∷
+    spell 11 "endswith" ∷ spell 12 "entrypoint" ∷ spell 13 "false" ∷ spell 14 "filesize" ∷ spell 15 "for" ∷
+    spell 16 "fullword" ∷ spell 17 "global" ∷ spell 18 "icontains" ∷ spell 19 "iendswith" ∷ spell 20 "iequals" ∷
+    spell 21 "import" ∷ spell 22 "in" ∷ spell 23 "include" ∷ spell 24 "istartswith" ∷ spell 25 "matches" ∷
+    spell 26 "meta" ∷ spell 27 "nocase" ∷ spell 28 "none" ∷ spell 29 "not" ∷ spell 30 "of" ∷
+    spell 31 "or" ∷ spell 32 "private" ∷ spell 33 "rule" ∷ spell 34 "startswith" ∷ spell 35 "strings" ∷
+    spell 36 "them" ∷ spell 37 "true" ∷ spell 38 "wide" ∷ spell 39 "with" ∷ spell 40 "xor" ∷ []
+
+-- kinds 41 to 67
+abbrev pub operators : List Spelling
+operators =
+    spell 41 "<<" ∷ spell 42 ">>" ∷ spell 43 "==" ∷ spell 44 "!=" ∷ spell 45 "<=" ∷ spell 46 ">=" ∷ spell 47 "<" ∷ spell 48 ">" ∷
+    spell 49 "&" ∷ spell 50 "*" ∷ spell 51 "\\" ∷ spell 52 ":" ∷ spell 53 "," ∷ spell 54 "." ∷ spell 55 "=" ∷ spell 56 "+" ∷
+    spell 57 "-" ∷ spell 58 "%" ∷ spell 59 "|" ∷ spell 60 "^" ∷ spell 61 "~" ∷
+    spell 62 "{" ∷ spell 63 "}" ∷ spell 64 "(" ∷ spell 65 ")" ∷ spell 66 "[" ∷ spell 67 "]" ∷ []
 
 abbrev pub tables-1 : Tables
 tables-1 = record { digits = digits-16; words = words-1 }
@@ -118,23 +129,9 @@ number p = seq (byte p) (star (byte (or-underscore p)))
 
 -- The rules.
 
-abbrev pub spelled : Word → Rule
-spelled w = rule (w .kind) (literal (w .spelling))
-
-abbrev pub sign : ℕ → String → Rule
-sign k s = rule k (text s)
-
--- kinds 41 to 67
-abbrev pub operators : List Rule
-operators =
-    sign 41 "<<" ∷ sign 42 ">>" ∷ sign 43 "==" ∷ sign 44 "!=" ∷ sign 45 "<=" ∷ sign 46 ">=" ∷ sign 47 "<" ∷ sign 48 ">" ∷
-    sign 49 "&" ∷ sign 50 "*" ∷ sign 51 "\\" ∷ sign 52 ":" ∷ sign 53 "," ∷ sign 54 "." ∷ sign 55 "=" ∷ sign 56 "+" ∷
-    sign 57 "-" ∷ sign 58 "%" ∷ sign 59 "|" ∷ sign 60 "^" ∷ sign 61 "~" ∷
-    sign 62 "{" ∷ sign 63 "}" ∷ sign 64 "(" ∷ sign 65 ")" ∷ sign 66 "[" ∷ sign 67 "]" ∷ []
-
 -- \$ ([[:alpha:]]|\d|_)* and likewise for # @ !
-abbrev pub marked : String → List ℕ → Pat
-marked s digits = seq (is s) (tail digits)
+abbrev pub pattern-word : String → List ℕ → Pat
+pattern-word s digits = seq (is s) (tail digits)
 
 -- ([[:alpha:]]|_) ([[:alpha:]]|\d|_)*
 abbrev pub identifier : List ℕ → Pat
@@ -175,17 +172,16 @@ line-comment = row (text "//" ∷ star (byte (none-of "\n")) ∷ [])
 abbrev pub blanks : Pat
 blanks = plus (char blank)
 
-abbrev pub newlines : List Rule
-newlines = sign NEWLINE "\n" ∷ sign NEWLINE "\r" ∷ sign NEWLINE "\r\n" ∷ []
+abbrev pub newlines : List Spelling
+newlines = spell NEWLINE "\n" ∷ spell NEWLINE "\r" ∷ spell NEWLINE "\r\n" ∷ []
 
--- `NormalToken`, over the digits that a word may hold, the keywords left out
-unfoldable pub fixed-rules : List ℕ → List Rule
-fixed-rules digits =
-    operators
-    ++ (rule PATTERN-IDENT (marked "$" digits)
-    ∷ rule PATTERN-COUNT (marked "#" digits)
-    ∷ rule PATTERN-OFFSET (marked "@" digits)
-    ∷ rule PATTERN-LENGTH (marked "!" digits)
+-- `NormalToken` from PatternIdent to Whitespace, over the digits that a word may hold
+unfoldable pub shaped-rules : List ℕ → List Rule
+shaped-rules digits =
+    rule PATTERN-IDENT (pattern-word "$" digits)
+    ∷ rule PATTERN-COUNT (pattern-word "#" digits)
+    ∷ rule PATTERN-OFFSET (pattern-word "@" digits)
+    ∷ rule PATTERN-LENGTH (pattern-word "!" digits)
     ∷ rule IDENT (identifier digits)
     ∷ rule FLOAT-LIT float
     ∷ rule INTEGER-LIT integer
@@ -195,30 +191,24 @@ fixed-rules digits =
     ∷ rule COMMENT (block-comment byte)
     ∷ rule COMMENT line-comment
     ∷ rule WHITESPACE blanks
-    ∷ newlines)
+    ∷ []
 
 -- `NormalToken`
 unfoldable pub normal-rules : Tables → List Rule
-unfolding words-1 digits-16 fixed-rules
-normal-rules t = map spelled (t .words) ++ fixed-rules (t .digits)
+unfolding words-1 digits-16 shaped-rules
+normal-rules t = map spelled (t .words) ++ (map spelled operators ++ (shaped-rules (t .digits) ++ map spelled newlines))
 
 -- `HexPatternToken`
 unfoldable pub pattern-rules : List Rule
 pattern-rules =
     rule HEX-BYTE (row (optional (is "~") ∷ byte hex-or-mark ∷ byte hex-or-mark ∷ []))
-    ∷ sign 59 "|"
-    ∷ sign 64 "("
-    ∷ sign 65 ")"
-    ∷ sign 66 "["
-    ∷ sign 67 "]"
-    ∷ rule WHITESPACE blanks
-    ∷ newlines
-    ++ (rule COMMENT (block-comment char) ∷ rule COMMENT line-comment ∷ [])
+    ∷ map spelled (spell 59 "|" ∷ spell 64 "(" ∷ spell 65 ")" ∷ spell 66 "[" ∷ spell 67 "]" ∷ [])
+    ++ (rule WHITESPACE blanks ∷ map spelled newlines ++ (rule COMMENT (block-comment char) ∷ rule COMMENT line-comment ∷ []))
 
 -- `HexJumpToken`; its integers: 0x[a-fA-F0-9]+ | 0o[0-7]+ | [0-9]+
 unfoldable pub jump-rules : List Rule
 jump-rules =
-    sign 57 "-"
+    spelled (spell 57 "-")
     ∷ rule INTEGER-LIT (alt (row (text "0x" ∷ plus (byte hex) ∷ [])) (alt (row (text "0o" ∷ plus (byte oct) ∷ [])) (plus (byte dec))))
     ∷ rule WHITESPACE blanks
-    ∷ newlines
+    ∷ map spelled newlines
