@@ -7,3 +7,4 @@ pub mod Meaning
 pub mod Longest
 pub mod Walk
 pub mod Agree
+pub mod Apart

@@ -30,7 +30,7 @@ sum-means f g = (⊎-elim (λ a. inl (f .0 a)) (λ b. inr (g .0 b)), ⊎-elim (�
 
 -- The computed forms of `alt` and `seq`.
 
-none-of-nothing : (a : Pat) (u : List ℕ) → is-nothing a ≡ true → Matches a u → ⊥
+pub none-of-nothing : (a : Pat) (u : List ℕ) → is-nothing a ≡ true → Matches a u → ⊥
 none-of-nothing nothing u e m = m
 none-of-nothing empty u e m = false≢true e
 none-of-nothing (byte p) u e m = false≢true e

@@ -23,6 +23,15 @@ abbrev pub Every : (Rule → Type 0) → List Rule → Type 0
 Every P [] = Unit {0}
 Every P (r ∷ rs) = P r × Every P rs
 
+-- a test of every rule, and what it says
+abbrev pub every : (Rule → Bool) → List Rule → Bool
+every f [] = true
+every f (r ∷ rs) = f r && every f rs
+
+pub every-right : (f : Rule → Bool) (rs : List Rule) → every f rs ≡ true → Every (λ r. f r ≡ true) rs
+every-right f [] e = tt
+every-right f (r ∷ rs) e = (and-first (f r) (every f rs) e, every-right f rs (and-second (f r) (every f rs) e))
+
 -- the rule that wins: those before it match less, and those behind it no more
 pub record Wins (rs : List Rule) (s : List ℕ) (h : Hit) : Type 0 where
   pub before : List Rule
@@ -42,6 +51,10 @@ pub data Best (rs : List Rule) (s : List ℕ) (h : Hit) : Type 0 where
 every-append : (P : Rule → Type 0) (xs ys : List Rule) → Every P xs → Every P ys → Every P (xs ++ ys)
 every-append P [] ys a b = b
 every-append P (x ∷ xs) ys a b = (a .0, every-append P xs ys (a .1) b)
+
+every-behind : (P : Rule → Type 0) (xs ys : List Rule) → Every P (xs ++ ys) → Every P ys
+every-behind P [] ys a = a
+every-behind P (x ∷ xs) ys a = every-behind P xs ys (a .1)
 
 weaker : (s : List ℕ) (n m : ℕ) → n ≤ m → (rs : List Rule) → Every (Below s n) rs → Every (Below s m) rs
 weaker s n m h [] a = tt
@@ -126,3 +139,11 @@ best-le rs s = go (best-right rs s)
     go : {h : Hit} → Best rs s h → h .len ≤ length s
     go (none e a) = omega (arith, ap (λ (x : Hit). x .len) e)
     go (won w) = w .matched .inside
+
+-- what holds of every rule holds of the one that wins
+pub best-rule : (P : ℕ → Type 0) (rs : List Rule) (s : List ℕ) → Every (λ r. P (r .kind)) rs → 1 ≤ (best rs s) .len → P ((best rs s) .kind)
+best-rule P rs s a l = go (best-right rs s) l
+  where
+    go : {h : Hit} → Best rs s h → 1 ≤ h .len → P (h .kind)
+    go (none e b) l = absurd (omega (arith, ap (λ (x : Hit). x .len) e))
+    go (won w) l = rw (w .kind) (every-behind (λ r. P (r .kind)) (w .before) (w .rule ∷ w .behind) (rw (w .listed) at a) .0)

@@ -24,14 +24,14 @@ best-behind (x ∷ xs) rs rs′ s e = ap (better (x .kind) (longest (x .pattern)
 
 -- two tables of digits and one list of keywords
 module _ (digits digits′ : List ℕ) (words : List Spelling) where
-  abbrev t : Tables
+  abbrev pub t : Tables
   t = record { digits = digits; words = words }
 
-  abbrev t′ : Tables
+  abbrev pub t′ : Tables
   t′ = record { digits = digits′; words = words }
 
   -- no character is a digit in one and not in the other
-  abbrev SameDigits : List ℕ → Type 0
+  abbrev pub SameDigits : List ℕ → Type 0
   SameDigits s = Agree (in-runs digits) (in-runs digits′) s
 
   tail-agree : (s : List ℕ) → SameDigits s → (c : Class) → longest (seq (byte c) (tail digits)) s ≡ longest (seq (byte c) (tail digits′)) s

@@ -15,6 +15,7 @@ use Rattle.tokens.specs.Ascii.{ascii}
 use Rattle.tokens.specs.Unicode.{digits-16, white}
 use Rattle.tokens.specs.Tokens.{Rule, tables-1, letter, dec, oct, hex, word-start, hex-or-mark, blank}
 use Rattle.tokens.specs.Scan.{Hit, best, rules}
+use Rattle.tokens.specs.BestLaws.{every}
 
 -- the kind of a text that is one token of the mode, and 0 for any other
 one-token : Mode → List ℕ → ℕ
@@ -89,12 +90,8 @@ unfolding one-token
 ill-formed = refl
 
 -- no rule of any mode matches the empty text
-every : (Rule → Bool) → List Rule → Bool
-every f [] = true
-every f (r ∷ rs) = f r && every f rs
-
 never-empty : (m : Mode) → every (λ r. not (nullable (r .pattern))) (rules tables-1 m) ≡ true
-unfolding every rules
+unfolding rules
 never-empty Normal = refl
 never-empty HexPattern = refl
 never-empty HexJump = refl

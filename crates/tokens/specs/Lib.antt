@@ -11,3 +11,4 @@ pub mod BestLaws
 pub mod ScanLaws
 pub mod ListLaws
 pub mod DigitTables
+pub mod Ties

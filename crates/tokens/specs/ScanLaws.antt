@@ -7,18 +7,20 @@ use mathlib.Core.Logic.{_↔_}
 use mathlib.Core.List.{List, [], _∷_}
 use native.Mathlib.Omega.{arith}
 use lib.ListN.{length, drop, length-drop}
-use Rattle.patterns.specs.Utf8.{Class, Front, whole, broken, decode}
+use Rattle.patterns.specs.Utf8.{Class, between, Front, whole, broken, decode}
 use Rattle.patterns.specs.Pattern.{longest}
 use Rattle.patterns.specs.Longest.{longest-le}
 use Rattle.tokens.specs.declared.Offset.{Offset}
 use Rattle.tokens.specs.declared.Mode.{Mode}
+use Rattle.tokens.specs.declared.Mode.the-variants.{Normal, HexPattern, HexJump}
 use Rattle.tokens.specs.declared.Reader.{Reader}
 use Rattle.tokens.specs.declared.Token.{Token}
 use Rattle.tokens.specs.declared.Scanned.{Scanned}
 use Rattle.tokens.specs.declared.Scanned.the-variants.{End, Found}
-use Rattle.tokens.specs.Tokens.{Rule, Tables}
+use Rattle.tokens.specs.Kinds.{INVALID-UTF8, UNKNOWN}
+use Rattle.tokens.specs.Tokens.{Rule, Tables, tables-1}
 use Rattle.tokens.specs.Scan.{Hit, best, rules, tried, Choice, plain, at-least-one, unmatched, or-else, choose, found, scan-rest, scan}
-use Rattle.tokens.specs.BestLaws.{best-le}
+use Rattle.tokens.specs.BestLaws.{every, every-right, best-le, best-rule}
 
 -- a choice takes something, and no more than the l bytes that there are
 record Fair (l : ℕ) (c : Choice) : Type 0 where
@@ -79,3 +81,37 @@ scan-end t src r = (λ e. rw e at (allowed t src r), λ h. past (scan t src r) (
     past : (y : Scanned) → Allowed src r y → length src ≤ r .place .0 → y ≡ End
     past End a h = refl
     past (Found x r′) a h = absurd (let e : x .start .0 ≡ r .place .0 = ap (λ (o : Offset). o .0) (a .starts) in omega (arith, a .longer, a .within))
+
+-- The kinds: where every rule's kind is in a class, and those of the two tokens that no rule makes, every token's kind is.
+module _ (c : Class) (t : Tables) (listed : (m : Mode) → every (λ r. c (r .kind)) (rules t m) ≡ true) (invalid : c INVALID-UTF8 ≡ true) (unknown : c UNKNOWN ≡ true) where
+  unmatched-kind : (f : Front) (s : List ℕ) → c ((unmatched f s) .kind) ≡ true
+  unfolding unmatched
+  unmatched-kind broken s = invalid
+  unmatched-kind (whole v n) s = unknown
+
+  or-else-kind : (m : Mode) (k n : ℕ) (next : Choice) → (1 ≤ n → c k ≡ true) → c (next .kind) ≡ true → c ((or-else m k n next) .kind) ≡ true
+  or-else-kind m k zero next f g = g
+  or-else-kind m k (suc n) next f g = f (omega arith)
+
+  choose-kind : (ms : List Mode) (s : List ℕ) → c ((choose t ms s) .kind) ≡ true
+  unfolding choose
+  choose-kind [] s = unmatched-kind (decode s) s
+  choose-kind (m ∷ ms) s =
+      or-else-kind m ((best (rules t m) s) .kind) ((best (rules t m) s) .len) (choose t ms s)
+      (best-rule (λ k. c k ≡ true) (rules t m) s (every-right (λ r. c (r .kind)) (rules t m) (listed m))) (choose-kind ms s)
+
+  rest-kind : (m : Mode) (at : ℕ) (s : List ℕ) (x : Token) (r′ : Reader) → scan-rest t m at s ≡ Found x r′ → c (x .kind) ≡ true
+  unfolding scan-rest
+  rest-kind m at [] x r′ e = let z : _≡_ {A = ℕ} 0 1 = cc in absurd (omega arith)
+  rest-kind m at (b ∷ s) x r′ e = let k : (choose t (tried m) (b ∷ s)) .kind ≡ x .kind = cc in rw (← k) (choose-kind (tried m) (b ∷ s))
+
+  pub scan-kind : (src : List ℕ) (r : Reader) (x : Token) (r′ : Reader) → scan t src r ≡ Found x r′ → c (x .kind) ≡ true
+  unfolding scan
+  scan-kind src r x r′ e = rest-kind (r .mode) (r .place .0) (drop (r .place .0) src) x r′ e
+
+-- document 01's kinds
+pub kinds-1 : (m : Mode) → every (λ r. between 1 82 (r .kind)) (rules tables-1 m) ≡ true
+unfolding rules
+kinds-1 Normal = refl
+kinds-1 HexPattern = refl
+kinds-1 HexJump = refl
