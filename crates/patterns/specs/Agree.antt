@@ -2,14 +2,14 @@
 -- character is never empty, so that the text gets shorter. Assumes nothing.
 use Prim.Native.Nat.{ℕ, zero, suc, _+_, _≤_}
 use mathlib.Core.Path.{_≡_, refl, sym, ap, _∙_}
-use mathlib.Core.Bool.{Bool, true, false, cond}
+use mathlib.Core.Bool.{Bool, true, false}
 use mathlib.Core.List.{List, [], _∷_}
 use native.Mathlib.Omega.{arith}
 use lib.ListN.{length, drop, length-drop}
 use lib.Seq.{drop-drop}
 use Rattle.patterns.specs.Utf8.{Class, Front, whole, broken, decode}
 use Rattle.patterns.specs.Utf8Laws.{decoded-size}
-use Rattle.patterns.specs.Pattern.{Pat, byte, char, seq, star, follow, if-in, walk, longest}
+use Rattle.patterns.specs.Pattern.{byte, char, seq, star, follow, if-in, walk, longest}
 use Rattle.patterns.specs.Walk.{char-then, walk-char}
 
 -- two classes agree on the characters of a text, wherever one is read

@@ -9,7 +9,7 @@ use native.Mathlib.Omega.{arith}
 use lib.Dec.{eqb}
 use borrow.Author.Tests.{eqb-true, eqb-false, not-true}
 use Rattle.patterns.specs.Utf8.{Class}
-use Rattle.patterns.specs.Pattern.{Pat, nothing, empty, byte, char, part, seq, alt, star, OneByte, Split, Many, done, again, Matches, nullable, is-nothing, deriv}
+use Rattle.patterns.specs.Pattern.{Pat, nothing, empty, byte, char, part, seq, alt, star, Many, done, again, Matches, nullable, is-nothing, deriv}
 use Rattle.patterns.specs.Bools.{and-both, and-first, and-second, or-cases, by-test}
 use Rattle.patterns.specs.Meaning.{none-of-nothing, null-means, deriv-means}
 

@@ -1,9 +1,8 @@
 -- `longest` is right for the plain meaning: the prefix of that length is matched, and no longer one is. By induction on the text:
 -- `deriv-means` takes a byte off both sides, and `best` is what `nullable` said of the prefixes so far. Assumes nothing.
 use Prim.Native.Nat.{ℕ, zero, suc, _+_, _≤_, _<_, zero-le, suc-le-suc}
-use mathlib.Core.Path.{_≡_, refl, sym, ap, _∙_}
+use mathlib.Core.Path.{_≡_, refl, sym, _∙_}
 use mathlib.Core.Bool.{Bool, true, false, cond, false≢true}
-use mathlib.Core.Logic.{_↔_}
 use mathlib.Core.List.{List, [], _∷_}
 use native.Mathlib.Nat.{le-of-suc-le-suc, add-zero}
 use native.Mathlib.Omega.{arith}

@@ -12,7 +12,7 @@ use lib.ListN.{length, getD, drop, drop-of-length-le, length-drop}
 use lib.Seq.{drop-cons, drop-drop, getD-drop}
 use lib.Dec.{eqb}
 use Rattle.patterns.specs.Utf8.{Class, between, Front, whole, broken, Lead, alone, more, bad, lead, join, longer, finish, after-lead, decode}
-use Rattle.patterns.specs.Pattern.{Pat, nothing, empty, byte, part, seq, literal, follow, nullable, if-in, char-after, part-after, deriv, walk, longest}
+use Rattle.patterns.specs.Pattern.{Pat, nothing, empty, part, seq, literal, follow, nullable, if-in, char-after, part-after, deriv, walk, longest}
 
 -- The walk itself.
 

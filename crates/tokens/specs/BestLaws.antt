@@ -1,7 +1,7 @@
 -- `best` is what document 01 says: the longest match wins, and of several that are as long the first rule in the list. By induction on
 -- the rules, since `longest` finds each rule's longest match (longest-right). Assumes nothing.
-use Prim.Native.Nat.{ℕ, zero, suc, _≤_, _<_}
-use mathlib.Core.Path.{_≡_, refl, sym, ap, _∙_}
+use Prim.Native.Nat.{ℕ, suc, _≤_, _<_}
+use mathlib.Core.Path.{_≡_, refl, ap}
 use mathlib.Core.Bool.{Bool, true, false, cond, _&&_}
 use mathlib.Core.Logic.{_⊎_, inl, inr, ⊎-elim}
 use mathlib.Core.List.{List, [], _∷_, _++_}
@@ -11,9 +11,9 @@ use lib.Dec.{leb}
 use borrow.Author.Tests.{leb-true, leb-false}
 use Rattle.patterns.specs.Pattern.{Pat, Matches, longest}
 use Rattle.patterns.specs.Bools.{and-first, and-second}
-use Rattle.patterns.specs.Longest.{Longest, NoPrefix, Right, is-none, is-longest, longest-right, longest-le}
+use Rattle.patterns.specs.Longest.{Longest, Right, is-none, is-longest, longest-right}
 use Rattle.tokens.specs.Tokens.{Rule}
-use Rattle.tokens.specs.Scan.{Hit, hit, better, best}
+use Rattle.tokens.specs.Scan.{Hit, hit, best}
 
 -- r matches no prefix of s of n bytes or more
 abbrev pub Below : List ℕ → ℕ → Rule → Type 0

@@ -12,9 +12,8 @@ use Rattle.tokens.specs.declared.Mode.{Mode}
 use Rattle.tokens.specs.declared.Mode.the-variants.{Normal, HexPattern, HexJump}
 use Rattle.tokens.specs.declared.Reader.{Reader}
 use Rattle.tokens.specs.Unicode.{in-runs}
-use Rattle.tokens.specs.Tokens.{Rule, Spelling, spelled, Tables, operators, one-of, word-start, word-part, tail, newlines, shaped-rules, normal-rules}
-use Rattle.tokens.specs.Ascii.{ascii}
-use Rattle.tokens.specs.Scan.{Hit, best, better, rules, tried, Choice, or-else, choose, found, scan-rest, scan}
+use Rattle.tokens.specs.Tokens.{ascii, Rule, Spelling, spelled, Tables, operators, one-of, word-start, word-part, tail, newlines, shaped-rules, normal-rules}
+use Rattle.tokens.specs.Scan.{Hit, best, better, rules, tried, or-else, choose, found, scan-rest, scan}
 
 -- the rest of a list of rules may be exchanged for one of the same hit
 best-behind : (xs rs rs′ : List Rule) (s : List ℕ) → best rs s ≡ best rs′ s → best (xs ++ rs) s ≡ best (xs ++ rs′) s

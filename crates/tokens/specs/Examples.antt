@@ -11,11 +11,14 @@ use Rattle.patterns.specs.Utf8.{Class}
 use Rattle.patterns.specs.Pattern.{nullable}
 use Rattle.tokens.specs.declared.Mode.{Mode}
 use Rattle.tokens.specs.declared.Mode.the-variants.{Normal, HexPattern, HexJump}
-use Rattle.tokens.specs.Ascii.{ascii}
 use Rattle.tokens.specs.Unicode.{digits-16, white}
-use Rattle.tokens.specs.Tokens.{Rule, tables-1, letter, dec, oct, hex, word-start, hex-or-mark, blank}
-use Rattle.tokens.specs.Scan.{Hit, best, rules}
+use Rattle.tokens.specs.Tokens.{ascii, tables-1, letter, dec, oct, hex, word-start, hex-or-mark, blank}
+use Rattle.tokens.specs.Scan.{best, rules}
 use Rattle.tokens.specs.BestLaws.{every}
+
+-- quoted texts
+escapes : ascii "a\"\\\n\r\t/" ≡ 97 ∷ 34 ∷ 92 ∷ 10 ∷ 13 ∷ 9 ∷ 47 ∷ []
+escapes = refl
 
 -- the kind of a text that is one token of the mode, and 0 for any other
 one-token : Mode → List ℕ → ℕ
@@ -124,7 +127,7 @@ blank-run : members 0x3100 blank
 unfolding members
 blank-run = refl
 
--- Nd of Unicode 16.0: 76 runs of ten, in order and apart, whose first values add up as those of UnicodeData.txt do
+-- Nd of Unicode 16.0: 76 runs of ten, in order and apart, whose first values add up as those of the published table do
 sum : List ℕ → ℕ
 sum [] = 0
 sum (x ∷ xs) = x + sum xs

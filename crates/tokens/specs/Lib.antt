@@ -1,5 +1,4 @@
--- What a token is: the definitions (Ascii, Kinds, Unicode, Tokens, Scan), the examples that pin them, and their laws.
-pub mod Ascii
+-- What a token is: the definitions (Kinds, Unicode, Tokens, Scan), the examples that pin them, and their laws.
 pub mod Kinds
 pub mod Unicode
 pub mod Tokens

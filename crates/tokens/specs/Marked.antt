@@ -7,9 +7,8 @@ use lib.ListN.{length}
 use Rattle.tokens.specs.declared.Mode.{Mode}
 use Rattle.tokens.specs.declared.Mode.the-variants.{Normal, HexPattern, HexJump}
 use Rattle.tokens.specs.declared.Token.{Token}
-use Rattle.tokens.specs.Ascii.{ascii}
-use Rattle.tokens.specs.Tokens.{tables-1}
-use Rattle.tokens.specs.Scan.{token, reader, Listing, listing, list-from}
+use Rattle.tokens.specs.Tokens.{ascii, tables-1}
+use Rattle.tokens.specs.Scan.{token, reader, listing, list-from}
 
 -- a source, the mode that it is opened in, its tokens, and the mode at its end
 pub record Case : Type 0 where

@@ -1,13 +1,12 @@
 -- The scan: which token stands at a place of a source, in a mode, and in which mode scanning goes on; and the list of all tokens.
 -- Assumes nothing.
-use Prim.Native.Nat.{ℕ, zero, suc, _+_}
-use mathlib.Core.Bool.{Bool, cond, not, _&&_}
+use Prim.Native.Nat.{ℕ, zero, suc, _+_, max}
+use mathlib.Core.Bool.{cond, not, _&&_}
 use mathlib.Core.List.{List, [], _∷_}
 use lib.ListN.{length, drop}
 use lib.Dec.{leb}
 use Rattle.patterns.specs.Utf8.{Front, whole, broken, decode}
 use Rattle.patterns.specs.Pattern.{Pat, char, star, walk, longest}
-use Rattle.tokens.specs.declared.Offset.{Offset}
 use Rattle.tokens.specs.declared.Mode.{Mode}
 use Rattle.tokens.specs.declared.Mode.the-variants.{Normal, HexPattern, HexJump}
 use Rattle.tokens.specs.declared.Reader.{Reader}
@@ -59,14 +58,10 @@ chosen k n m = record { kind = k; len = n; mode = m }
 abbrev pub plain : Pat
 plain = star (char (λ v. not (white v)))
 
-abbrev pub at-least-one : ℕ → ℕ
-at-least-one zero = 1
-at-least-one (suc n) = suc n
-
 unfoldable pub unmatched : Front → List ℕ → Choice
 unfolding white walk
 unmatched broken s = chosen INVALID-UTF8 1 Normal
-unmatched (whole v n) s = chosen UNKNOWN (at-least-one (longest plain s)) Normal
+unmatched (whole v n) s = chosen UNKNOWN (max 1 (longest plain s)) Normal
 
 -- a hit in the mode m, or else what the next mode takes
 abbrev pub or-else : Mode → ℕ → ℕ → Choice → Choice

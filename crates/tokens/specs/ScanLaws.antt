@@ -1,14 +1,13 @@
 -- What holds of every scan: a token is never empty, starts at the place and ends within the source; none is answered exactly at the
 -- end. Proved once over any modes and rules: a choice takes at least one byte, and no rule more than there are. Assumes nothing.
-use Prim.Native.Nat.{ℕ, zero, suc, _+_, _-_, _≤_, _<_}
-use mathlib.Core.Path.{_≡_, refl, sym, ap, _∙_}
-use mathlib.Core.Bool.{Bool, true, false, _&&_}
+use Prim.Native.Nat.{ℕ, zero, suc, _-_, _≤_, _<_}
+use mathlib.Core.Path.{_≡_, refl, ap}
+use mathlib.Core.Bool.{true}
 use mathlib.Core.Logic.{_↔_}
 use mathlib.Core.List.{List, [], _∷_}
 use native.Mathlib.Omega.{arith}
 use lib.ListN.{length, drop, length-drop}
 use Rattle.patterns.specs.Utf8.{Class, between, Front, whole, broken, decode}
-use Rattle.patterns.specs.Pattern.{longest}
 use Rattle.patterns.specs.Longest.{longest-le}
 use Rattle.tokens.specs.declared.Offset.{Offset}
 use Rattle.tokens.specs.declared.Mode.{Mode}
@@ -18,8 +17,8 @@ use Rattle.tokens.specs.declared.Token.{Token}
 use Rattle.tokens.specs.declared.Scanned.{Scanned}
 use Rattle.tokens.specs.declared.Scanned.the-variants.{End, Found}
 use Rattle.tokens.specs.Kinds.{INVALID-UTF8, UNKNOWN}
-use Rattle.tokens.specs.Tokens.{Rule, Tables, tables-1}
-use Rattle.tokens.specs.Scan.{Hit, best, rules, tried, Choice, plain, at-least-one, unmatched, or-else, choose, found, scan-rest, scan}
+use Rattle.tokens.specs.Tokens.{Tables, tables-1}
+use Rattle.tokens.specs.Scan.{best, rules, tried, Choice, plain, unmatched, or-else, choose, scan-rest, scan}
 use Rattle.tokens.specs.BestLaws.{every, every-right, best-le, best-rule}
 
 -- a choice takes something, and no more than the l bytes that there are
@@ -27,16 +26,10 @@ record Fair (l : ℕ) (c : Choice) : Type 0 where
   moves : 1 ≤ c .len
   inside : c .len ≤ l
 
-one-or-more : (n l : ℕ) → 1 ≤ l → n ≤ l → (1 ≤ at-least-one n) × (at-least-one n ≤ l)
-one-or-more zero l h k = (omega arith, h)
-one-or-more (suc n) l h k = (omega arith, k)
-
 unmatched-fair : (f : Front) (s : List ℕ) → 1 ≤ length s → Fair (length s) (unmatched f s)
 unfolding unmatched
 unmatched-fair broken s h = record { moves = omega arith; inside = h }
-unmatched-fair (whole v n) s h =
-    let g : (1 ≤ at-least-one (longest plain s)) × (at-least-one (longest plain s) ≤ length s) = one-or-more (longest plain s) (length s) h (longest-le plain s) in
-    record { moves = g .0; inside = g .1 }
+unmatched-fair (whole v n) s h = record { moves = omega arith; inside = omega (arith, longest-le plain s) }
 
 or-else-fair : (m : Mode) (k n l : ℕ) (next : Choice) → n ≤ l → Fair l next → Fair l (or-else m k n next)
 or-else-fair m k zero l next h f = f

@@ -1,22 +1,20 @@
 -- At equal length a keyword beats IDENT, and no other tie exists: two rules of a mode that match one text of bytes are of one kind, or
 -- a keyword and IDENT. A test over all pairs of rules is computed (apart); a float has a dot, an integer none. Assumes nothing.
-use Prim.Native.Nat.{ℕ, _≤_, _<_}
-use mathlib.Core.Path.{_≡_, refl, sym, ap, _∙_}
-use mathlib.Core.Bool.{Bool, true, false, not, _&&_, _||_, false≢true}
-use mathlib.Core.Logic.{_⊎_, inl, inr, ⊎-elim}
-use mathlib.Core.List.{List, [], _∷_, _++_}
-use native.Mathlib.Omega.{arith}
+use Prim.Native.Nat.{ℕ, _≤_}
+use mathlib.Core.Path.{_≡_, refl, sym}
+use mathlib.Core.Bool.{Bool, true, false, not, _&&_, _||_}
+use mathlib.Core.Logic.{⊎-elim}
+use mathlib.Core.List.{List, [], _∷_}
 use lib.Dec.{eqb, leb}
 use borrow.Author.Tests.{eqb-true, leb-true}
 use Rattle.patterns.specs.Utf8.{Class}
-use Rattle.patterns.specs.Pattern.{Pat, Matches, byte, seq, plus, deriv}
-use Rattle.patterns.specs.Bools.{and-first, and-second, or-cases, by-test}
-use Rattle.patterns.specs.Meaning.{follow-means}
+use Rattle.patterns.specs.Pattern.{Pat, Matches, deriv}
+use Rattle.patterns.specs.Bools.{and-first, and-second, or-cases}
 use Rattle.patterns.specs.Apart.{Bytes, live, parted, apart, Disjoint, parted-right, apart-right, within, within-right, needs, needs-right}
 use Rattle.tokens.specs.declared.Mode.{Mode}
 use Rattle.tokens.specs.declared.Mode.the-variants.{Normal, HexPattern, HexJump}
-use Rattle.tokens.specs.Kinds.{IDENT, FLOAT-LIT, INTEGER-LIT}
-use Rattle.tokens.specs.Tokens.{Rule, tables-1, dec, or-underscore, number, is, float, integer}
+use Rattle.tokens.specs.Kinds.{IDENT, FLOAT-LIT}
+use Rattle.tokens.specs.Tokens.{Rule, tables-1}
 use Rattle.tokens.specs.Scan.{rules}
 
 -- kinds of one text

@@ -2,14 +2,20 @@
 -- Assumes nothing.
 use Prim.Native.Nat.{ℕ}
 use Prim.Native.String.{String}
-use mathlib.Core.Bool.{Bool, false, not, _||_}
+use Prim.Native.String as Text
+use Prim.Native.Char.{code}
+use mathlib.Core.Bool.{false, not, _||_}
 use mathlib.Core.List.{List, [], _∷_, _++_, map}
 use lib.Dec.{eqb}
 use Rattle.patterns.specs.Utf8.{Class, between}
 use Rattle.patterns.specs.Pattern.{Pat, byte, char, seq, alt, star, literal, plus, optional, at-most-two, row}
-use Rattle.tokens.specs.Ascii.{ascii}
 use Rattle.tokens.specs.Unicode.{in-runs, digits-16}
 use Rattle.tokens.specs.Kinds.{PATTERN-IDENT, PATTERN-COUNT, PATTERN-OFFSET, PATTERN-LENGTH, IDENT, FLOAT-LIT, INTEGER-LIT, STRING-LIT, REGEXP, COMMENT, WHITESPACE, NEWLINE, HEX-BYTE}
+
+-- a quoted text as its bytes: for texts of ASCII characters
+abbrev pub ascii : String → List ℕ
+ascii Text.[] = []
+ascii (Text._∷_ c s) = code c ∷ ascii s
 
 -- a kind and its pattern
 pub record Rule : Type 0 where

@@ -1,7 +1,7 @@
 -- What is taken from the Unicode Standard: decimal digits (General_Category Nd) and White_Space.
 -- Assumes nothing.
 use Prim.Native.Nat.{ℕ, _+_}
-use mathlib.Core.Bool.{Bool, false, _||_}
+use mathlib.Core.Bool.{false, _||_}
 use mathlib.Core.List.{List, [], _∷_}
 use lib.Dec.{eqb}
 use Rattle.patterns.specs.Utf8.{Class, between}
