@@ -23,6 +23,10 @@ pub data Tie (k k′ : ℕ) : Type 0 where
   keyword-ident : k ≤ 40 → k′ ≡ IDENT → Tie k k′
   ident-keyword : k ≡ IDENT → k′ ≤ 40 → Tie k k′
 
+-- where two rules match one text, they tie so
+abbrev pub Ties : Rule → Rule → Type 0
+Ties r x = (u : List ℕ) → Bytes u → Matches (r .pattern) u → Matches (x .pattern) u → Tie (r .kind) (x .kind)
+
 -- a rule of a list
 pub data In (r : Rule) : List Rule → Type 0 where
   here : {rs : List Rule} → In r (r ∷ rs)
@@ -30,6 +34,7 @@ pub data In (r : Rule) : List Rule → Type 0 where
 
 -- The test, each rule against those behind it.
 
+-- kinds that may tie
 excused : ℕ → ℕ → Bool
 excused k k′ = eqb k k′ || (leb k 40 && eqb k′ IDENT)
 
@@ -41,11 +46,12 @@ dotted : Pat → Pat → Bool
 unfolding needs within no-dot
 dotted a r = needs no-dot a && within no-dot r
 
+-- a byte on, and then as long as any two spellings are alike
 after-byte : Pat → Pat → ℕ → Bool
 unfolding apart
 after-byte a r b = apart 10 (deriv b a) (deriv b r)
 
--- `firsts` are the bytes with which a text of r can begin
+-- r and x have no text in common; `firsts` are the bytes with which a text of r can begin, listed once for all x
 distinct : Rule → List ℕ → Rule → Bool
 unfolding dotted after-byte
 distinct r firsts x =
@@ -91,7 +97,7 @@ distinct-right r x e = go (eqb (r .kind) FLOAT-LIT && dotted (r .pattern) (x .pa
     go true q e = dotted-right (r .pattern) (x .pattern) (and-second (eqb (r .kind) FLOAT-LIT) (dotted (r .pattern) (x .pattern)) q)
     go false q e = parted-right (after-byte (r .pattern) (x .pattern)) (r .pattern) (x .pattern) (λ b. apart-right 10 (deriv b (r .pattern)) (deriv b (x .pattern))) e
 
-pair-ties : (r x : Rule) → sorted-out r (live 256 (r .pattern)) x ≡ true → (u : List ℕ) → Bytes u → Matches (r .pattern) u → Matches (x .pattern) u → Tie (r .kind) (x .kind)
+pair-ties : (r x : Rule) → sorted-out r (live 256 (r .pattern)) x ≡ true → Ties r x
 unfolding sorted-out excused
 pair-ties r x e u h m n = go (excused (r .kind) (x .kind)) refl e
   where
@@ -105,8 +111,7 @@ pair-ties r x e u h m n = go (excused (r .kind) (x .kind)) refl e
     go true q e = tie q
     go false q e = absurd (distinct-right r x e u h m n)
 
-head-ties : (r x : Rule) (rs : List Rule) → against r (live 256 (r .pattern)) rs ≡ true → In x rs
-    → (u : List ℕ) → Bytes u → Matches (r .pattern) u → Matches (x .pattern) u → Tie (r .kind) (x .kind)
+head-ties : (r x : Rule) (rs : List Rule) → against r (live 256 (r .pattern)) rs ≡ true → In x rs → Ties r x
 unfolding against
 head-ties r x rs e (here {rs = xs}) = pair-ties r x (and-first (sorted-out r (live 256 (r .pattern)) x) (against r (live 256 (r .pattern)) xs) e)
 head-ties r x rs e (there {x = y} {rs = xs} i) = head-ties r x xs (and-second (sorted-out r (live 256 (r .pattern)) y) (against r (live 256 (r .pattern)) xs) e) i
@@ -116,14 +121,13 @@ other-way (same e) = same (sym e)
 other-way (keyword-ident h e) = ident-keyword e h
 other-way (ident-keyword e h) = keyword-ident h e
 
-list-ties : (r r′ : Rule) (rs : List Rule) → tie-free rs ≡ true → In r rs → In r′ rs
-    → (u : List ℕ) → Bytes u → Matches (r .pattern) u → Matches (r′ .pattern) u → Tie (r .kind) (r′ .kind)
+list-ties : (r r′ : Rule) (rs : List Rule) → tie-free rs ≡ true → In r rs → In r′ rs → Ties r r′
 unfolding tie-free
 list-ties r r′ rs e here here u h m n = same refl
 list-ties r r′ rs e (here {rs = xs}) (there j) u h m n = head-ties r r′ xs (and-first (against r (live 256 (r .pattern)) xs) (tie-free xs) e) j u h m n
 list-ties r r′ rs e (there i) (here {rs = xs}) u h m n = other-way (head-ties r′ r xs (and-first (against r′ (live 256 (r′ .pattern)) xs) (tie-free xs) e) i u h n m)
 list-ties r r′ rs e (there {x = x} {rs = xs} i) (there j) u h m n = list-ties r r′ xs (and-second (against x (live 256 (x .pattern)) xs) (tie-free xs) e) i j u h m n
 
-pub no-other-tie : (mode : Mode) (r r′ : Rule) → In r (rules tables-1 mode) → In r′ (rules tables-1 mode)
-    → (u : List ℕ) → Bytes u → Matches (r .pattern) u → Matches (r′ .pattern) u → Tie (r .kind) (r′ .kind)
+-- any two rules of a mode
+pub no-other-tie : (mode : Mode) (r r′ : Rule) → In r (rules tables-1 mode) → In r′ (rules tables-1 mode) → Ties r r′
 no-other-tie mode r r′ = list-ties r r′ (rules tables-1 mode) (modes-tie-free mode)
