@@ -1,7 +1,7 @@
 -- The list of tokens: it is the scan's answer and then the list from there, and it tiles the source. Since each token is at least
 -- one byte long, as many turns as there are bytes are enough, and more change nothing. Assumes nothing.
 use Prim.Native.Nat.{ℕ, zero, suc, _-_, _≤_, _<_, zero-le}
-use mathlib.Core.Path.{_≡_, refl, ap, subst}
+use mathlib.Core.Path.{_≡_, refl, ap, _∙_, subst}
 use mathlib.Core.List.{List, [], _∷_}
 use native.Mathlib.Omega.{arith}
 use lib.ListN.{length}
@@ -12,7 +12,7 @@ use Rattle.tokens.specs.declared.Token.{Token}
 use Rattle.tokens.specs.declared.Scanned.{Scanned}
 use Rattle.tokens.specs.declared.Scanned.the-variants.{End, Found}
 use Rattle.tokens.specs.Tokens.{Tables}
-use Rattle.tokens.specs.Scan.{reader, scan, Listing, onto, list-first, list-from, tokens}
+use Rattle.tokens.specs.Scan.{reader, scan, Listing, listing, onto, list-first, list-from, tokens}
 use Rattle.tokens.specs.ScanLaws.{Step, scan-found, scan-end}
 
 -- the tokens lie one after the other from a to z, none of them empty
@@ -55,6 +55,10 @@ module _ (t : Tables) (src : List ℕ) where
   pub list-step : (r : Reader) → list-from t src r ≡ onto (scan t src r) r (λ r′. list-from t src r′)
   unfolding list-from list-first
   list-step r = enough (length src) (suc (length src)) r (omega arith) (omega arith)
+
+  -- at the end there is none, and the reader stays as it was, its mode too
+  pub list-end : (r : Reader) → length src ≤ r .place .0 → list-from t src r ≡ listing [] r
+  list-end r h = list-step r ∙ ap (λ (y : Scanned). onto y r (λ r′. list-from t src r′)) (scan-end t src r .1 h)
 
   first-covers : (n : ℕ) (r : Reader) → r .place .0 ≤ length src → left r ≤ n → Covers (r .place .0) (length src) (list-first n t src r)
   unfolding list-first
