@@ -3,45 +3,32 @@
 use Prim.Native.Nat.{ℕ, zero, suc, _<_}
 use mathlib.Core.Path.{_≡_, refl, sym, ap, _∙_}
 use mathlib.Core.Bool.{Bool, true, false, not, _&&_, _||_, true≢false, false≢true}
-use mathlib.Core.Logic.{_↔_, ⊎-elim}
+use mathlib.Core.Logic.{⊎-elim}
 use mathlib.Core.List.{List, [], _∷_, _++_}
-use native.Mathlib.Omega.{arith}
-use lib.Dec.{eqb}
-use borrow.Author.Tests.{eqb-true, eqb-false, not-true}
+use borrow.Author.Tests.{not-true}
 use Rattle.patterns.specs.Utf8.{Class}
 use Rattle.patterns.specs.Pattern.{Pat, nothing, empty, byte, char, part, seq, alt, star, Many, done, again, Matches, nullable, is-nothing, deriv}
 use Rattle.patterns.specs.Bools.{and-both, and-first, and-second, or-cases, by-test}
+use Rattle.patterns.specs.Lists.{All, all-append, each, members, each-member}
 use Rattle.patterns.specs.Meaning.{none-of-nothing, null-means, deriv-means}
 
--- what holds of each of a list; a text of bytes
-abbrev pub All : (ℕ → Type 0) → List ℕ → Type 0
-All P [] = Unit {0}
-All P (x ∷ u) = P x × All P u
-
+-- a text of bytes
 abbrev pub Bytes : List ℕ → Type 0
 Bytes = All (λ b. b < 256)
 
--- a test of all numbers below n, and what it says of each
-abbrev pub below : ℕ → (ℕ → Bool) → Bool
-below zero f = true
-below (suc n) f = f n && below n f
+-- the bytes with which a text of a can begin
+unfoldable pub live : Pat → List ℕ
+unfolding deriv members
+live a = members 256 (λ b. not (is-nothing (deriv b a)))
 
-pub at-each : (n : ℕ) (f : ℕ → Bool) → below n f ≡ true → (k : ℕ) → k < n → f k ≡ true
-at-each zero f e k h = absurd (omega arith)
-at-each (suc n) f e k h =
-    by-test (eqb k n) (λ q. ap f (eqb-true k n q) ∙ and-first (f n) (below n f) e)
-    (λ q. let d : ¬ (k ≡ n) = eqb-false k n q in at-each n f (and-second (f n) (below n f) e) k (omega arith))
+-- a test of every byte, and what it says of each
+unfoldable pub each-byte : (ℕ → Bool) → Bool
+unfolding members
+each-byte f = each f (members 256 (λ b. true))
 
--- a test of each of a list
-abbrev pub each : (ℕ → Bool) → List ℕ → Bool
-each f [] = true
-each f (x ∷ xs) = f x && each f xs
-
--- the bytes below n with which a text of a can begin
-unfoldable pub live : ℕ → Pat → List ℕ
-unfolding deriv
-live zero a = []
-live (suc n) a = elim (is-nothing (deriv n a)) [ true ↦ live n a | false ↦ n ∷ live n a ]
+pub at-byte : (f : ℕ → Bool) → each-byte f ≡ true → (b : ℕ) → b < 256 → f b ≡ true
+unfolding each-byte
+at-byte f e b h = each-member 256 (λ b. true) f e b h refl
 
 -- a and r are not both done, and after each of the bytes `firsts` the test f holds
 abbrev pub parted : List ℕ → (ℕ → Bool) → Pat → Pat → Bool
@@ -51,50 +38,41 @@ parted firsts f a r = not (nullable a && nullable r) && each f firsts
 unfoldable pub apart : ℕ → Pat → Pat → Bool
 unfolding live
 apart zero a r = is-nothing r
-apart (suc n) a r = elim (is-nothing r) [ true ↦ true | false ↦ parted (live 256 a) (λ b. apart n (deriv b a) (deriv b r)) a r ]
-
-each-live : (n : ℕ) (a : Pat) (f : ℕ → Bool) → each f (live n a) ≡ true → (b : ℕ) → b < n → is-nothing (deriv b a) ≡ false → f b ≡ true
-unfolding live
-each-live zero a f e b h d = absurd (omega arith)
-each-live (suc n) a f e b h d = go (is-nothing (deriv n a)) refl e (each-live n a f)
-  where
-    go : (t : Bool) → is-nothing (deriv n a) ≡ t → each f (elim t [ true ↦ live n a | false ↦ n ∷ live n a ]) ≡ true
-        → (each f (live n a) ≡ true → (b : ℕ) → b < n → is-nothing (deriv b a) ≡ false → f b ≡ true) → f b ≡ true
-    go true q e next =
-        let k : ¬ (b ≡ n) = λ z. true≢false (sym q ∙ ap (λ (x : ℕ). is-nothing (deriv x a)) (sym z) ∙ d) in
-        next e b (omega arith) d
-    go false q e next =
-        by-test (eqb b n) (λ z. ap f (eqb-true b n z) ∙ and-first (f n) (each f (live n a)) e)
-        (λ z. let k : ¬ (b ≡ n) = eqb-false b n z in next (and-second (f n) (each f (live n a)) e) b (omega arith) d)
+apart (suc n) a r = elim (is-nothing r) [ true ↦ true | false ↦ parted (live a) (λ b. apart n (deriv b a) (deriv b r)) a r ]
 
 -- no text of bytes is matched by both
 abbrev pub Disjoint : Pat → Pat → Type 0
 Disjoint a r = (u : List ℕ) → Bytes u → Matches a u → Matches r u → ⊥
 
-pub parted-right : (f : ℕ → Bool) (a r : Pat) → ((b : ℕ) → f b ≡ true → Disjoint (deriv b a) (deriv b r)) → parted (live 256 a) f a r ≡ true → Disjoint a r
+pub parted-right : (f : ℕ → Bool) (a r : Pat) → ((b : ℕ) → f b ≡ true → Disjoint (deriv b a) (deriv b r)) → parted (live a) f a r ≡ true → Disjoint a r
+unfolding live
 parted-right f a r g e [] h m n =
-    let q : (nullable a && nullable r) ≡ false = not-true (nullable a && nullable r) (and-first (not (nullable a && nullable r)) (each f (live 256 a)) e) in
+    let q : (nullable a && nullable r) ≡ false = not-true (nullable a && nullable r) (and-first (not (nullable a && nullable r)) (each f (live a)) e) in
     true≢false (sym (and-both (nullable a) (nullable r) (null-means a .1 m) (null-means r .1 n)) ∙ q)
 parted-right f a r g e (b ∷ u) h m n =
-    by-test (is-nothing (deriv b a)) (λ q. none-of-nothing (deriv b a) u q (deriv-means a b u .1 m))
-    (λ q.
-    g b (each-live 256 a f (and-second (not (nullable a && nullable r)) (each f (live 256 a)) e) b (h .0) q) u (h .1) (deriv-means a b u .1 m) (deriv-means r b u .1 n))
+    by-test (is-nothing (deriv b a)) (λ q. none-of-nothing (deriv b a) u q (deriv-means a b u .1 m)) (λ q. g b (tested q) u (h .1) (deriv-means a b u .1 m) (deriv-means r b u .1 n))
+  where
+    tested : is-nothing (deriv b a) ≡ false → f b ≡ true
+    tested q =
+        each-member 256 (λ b. not (is-nothing (deriv b a))) f (and-second (not (nullable a && nullable r)) (each f (live a)) e) b (h .0)
+        (ap not q)
 
 pub apart-right : (n : ℕ) (a r : Pat) → apart n a r ≡ true → Disjoint a r
 unfolding apart
 apart-right zero a r e u h m n = none-of-nothing r u e n
 apart-right (suc k) a r e u h m n = go (is-nothing r) refl e (λ b. apart-right k (deriv b a) (deriv b r))
   where
-    go : (t : Bool) → is-nothing r ≡ t → elim t [ true ↦ true | false ↦ parted (live 256 a) (λ b. apart k (deriv b a) (deriv b r)) a r ] ≡ true
+    go : (t : Bool) → is-nothing r ≡ t → elim t [ true ↦ true | false ↦ parted (live a) (λ b. apart k (deriv b a) (deriv b r)) a r ] ≡ true
         → ((b : ℕ) → apart k (deriv b a) (deriv b r) ≡ true → Disjoint (deriv b a) (deriv b r)) → ⊥
     go true q e g = none-of-nothing r u q n
     go false q e g = parted-right (λ b. apart k (deriv b a) (deriv b r)) a r g e u h m n
 
 -- Every byte of a text of r is in the class c: another such test, for patterns of bytes.
 unfoldable pub within : Class → Pat → Bool
+unfolding each-byte
 within c nothing = true
 within c empty = true
-within c (byte p) = below 256 (λ b. not (p b) || c b)
+within c (byte p) = each-byte (λ b. not (p b) || c b)
 within c (char p) = false
 within c (part p low high k bits) = false
 within c (seq a r) = within c a && within c r
@@ -103,13 +81,6 @@ within c (star a) = within c a
 
 abbrev pub Only : Class → List ℕ → Type 0
 Only c = All (λ b. c b ≡ true)
-
-pub all-append : (P : ℕ → Type 0) (u w : List ℕ) → All P (u ++ w) ↔ (All P u × All P w)
-all-append P [] w = (λ a. (tt, a), λ a. a .1)
-all-append P (x ∷ u) w = (
-  λ a. ((a .0, all-append P u w .0 (a .1) .0), all-append P u w .0 (a .1) .1),
-  λ a. (a .0 .0, all-append P u w .1 (a .0 .1, a .1)),
-)
 
 -- a text in two parts
 both-within : (c : Class) (s t u : List ℕ) → u ≡ s ++ t → Bytes u → (Bytes s → Only c s) → (Bytes t → Only c t) → Only c u
@@ -129,7 +100,7 @@ unfolding within
 within-right c nothing e u h m = absurd m
 within-right c empty e u h m = rw m tt
 within-right c (byte p) e u h m =
-    rw (m .read) (byte-within c p (m .value) (at-each 256 (λ b. not (p b) || c b) e (m .value) ((rw (m .read) at h) .0)) (m .fits), tt)
+    rw (m .read) (byte-within c p (m .value) (at-byte (λ b. not (p b) || c b) e (m .value) ((rw (m .read) at h) .0)) (m .fits), tt)
 within-right c (char p) e u h m = absurd (false≢true e)
 within-right c (part p low high k bits) e u h m = absurd (false≢true e)
 within-right c (seq a r) e u h m =
@@ -141,9 +112,10 @@ within-right c (star a) e u h m = many-within c (λ s. Matches a s) (λ s k x. w
 
 -- Every text of r has a byte outside the class c.
 unfoldable pub needs : Class → Pat → Bool
+unfolding each-byte
 needs c nothing = true
 needs c empty = false
-needs c (byte p) = below 256 (λ b. not (p b && c b))
+needs c (byte p) = each-byte (λ b. not (p b && c b))
 needs c (char p) = false
 needs c (part p low high k bits) = false
 needs c (seq a r) = needs c a || needs c r
@@ -156,7 +128,7 @@ needs-right c nothing e u h m o = m
 needs-right c empty e u h m o = false≢true e
 needs-right c (byte p) e u h m o =
     let k : (p (m .value) && c (m .value)) ≡ false =
-    not-true (p (m .value) && c (m .value)) (at-each 256 (λ b. not (p b && c b)) e (m .value) ((rw (m .read) at h) .0)) in
+    not-true (p (m .value) && c (m .value)) (at-byte (λ b. not (p b && c b)) e (m .value) ((rw (m .read) at h) .0)) in
     true≢false (sym (and-both (p (m .value)) (c (m .value)) (m .fits) ((rw (m .read) at o) .0)) ∙ k)
 needs-right c (char p) e u h m o = false≢true e
 needs-right c (part p low high k bits) e u h m o = false≢true e

@@ -2,6 +2,7 @@
 pub mod Utf8
 pub mod Pattern
 pub mod Bools
+pub mod Lists
 pub mod Utf8Laws
 pub mod Meaning
 pub mod Longest

@@ -8,6 +8,7 @@ use mathlib.Core.List.{List, [], _∷_, _++_, append-assoc}
 use native.Mathlib.Omega.{arith}
 use lib.ListN.{length}
 use Rattle.patterns.specs.Utf8.{Class, between, Front, whole, broken, Lead, alone, more, bad, lead, join, longer, finish, after-lead, decode}
+use Rattle.patterns.specs.Utf8Laws.{never, shorter}
 use Rattle.patterns.specs.Pattern.{Pat, nothing, empty, byte, char, part, seq, alt, star, OneByte, OneChar, Split, Many, done, again, Matches, follow}
 use Rattle.patterns.specs.Pattern.{nullable, is-nothing, either, if-in, char-after, part-after, deriv}
 use Rattle.patterns.specs.Bools.{and-both, and-first, and-second, or-first, or-second, or-cases}
@@ -96,7 +97,7 @@ no-cons : (b : ℕ) (s : List ℕ) → [] ≡ b ∷ s → ⊥
 no-cons b s e = let z : _≡_ {A = ℕ} 0 1 = cc in omega arith
 
 no-char : (p : Class) (n : ℕ) → OneChar p broken n → ⊥
-no-char p n m = let z : _≡_ {A = ℕ} 0 1 = cc (m .read) in omega arith
+no-char p n m = never (m .read)
 
 pub null-means : (r : Pat) → nullable r ≡ true ↔ Matches r []
 unfolding decode finish
@@ -145,14 +146,13 @@ last-means p v s = (
 )
 
 longer-means : (p : Class) (f : Front) (n : ℕ) → OneChar p f n ↔ OneChar p (longer f) (suc n)
-longer-means p f n = (λ m. record { value = m .value; read = ap longer (m .read); fits = m .fits }, shorter f)
-  where
-    shorter : (f : Front) → OneChar p (longer f) (suc n) → OneChar p f n
-    shorter (whole v k) m =
-        let e : suc k ≡ suc n = cc (m .read) in
-        let h : k ≡ n = omega arith in
-        record { value = m .value; read = cc (m .read, h); fits = m .fits }
-    shorter broken m = absurd (no-char p (suc n) m)
+longer-means p f n = (
+  λ m. record { value = m .value; read = ap longer (m .read); fits = m .fits },
+  λ m.
+      let s = shorter f (m .read) in
+      let e : s .0 ≡ n = omega (arith, s .2) in
+      record { value = m .value; read = s .1 ∙ ap (whole (m .value)) e; fits = m .fits },
+)
 
 none-means : (p : Class) (n : ℕ) → ⊥ ↔ OneChar p broken n
 none-means p n = (λ m. absurd m, no-char p n)

@@ -1,7 +1,7 @@
 -- A small pattern language over bytes: what a pattern is, which texts it matches, and how its longest match is computed.
 -- Assumes nothing.
 use Prim.Native.Nat.{ℕ, zero, suc}
-use mathlib.Core.Path.{_≡_}
+use mathlib.Core.Path.{_≡_, refl}
 use mathlib.Core.Bool.{Bool, true, false, cond, _&&_, _||_}
 use mathlib.Core.Logic.{_⊎_}
 use mathlib.Core.List.{List, [], _∷_, _++_}
@@ -148,3 +148,11 @@ walk r (b ∷ bs) k best = walk (deriv b r) bs (suc k) (cond (nullable r) k best
 -- the length of the longest prefix that r matches, 0 where it matches none: no rule of a token matches the empty text
 abbrev pub longest : Pat → List ℕ → ℕ
 longest r s = walk r s 0 0
+
+-- of `a` or `abc`, the text `ab` has one byte, and `abc` all three
+best-end-kept : longest (alt (literal (97 ∷ [])) (literal (97 ∷ 98 ∷ 99 ∷ []))) (97 ∷ 98 ∷ [])
+    ∷ longest (alt (literal (97 ∷ [])) (literal (97 ∷ 98 ∷ 99 ∷ []))) (97 ∷ 98 ∷ 99 ∷ [])
+    ∷ []
+    ≡ 1 ∷ 3 ∷ []
+unfolding walk
+best-end-kept = refl

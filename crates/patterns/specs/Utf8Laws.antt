@@ -77,7 +77,8 @@ unfolding finish
 finishes low high zero bits v s p = let (_, _, l, h) = p in simp le-leb (ap (λ (w : ℕ). whole w 1) (omega arith))
 finishes low high (suc k) bits v s p = let (_, _, l, h) = p in simp le-leb (ap longer (finishes 0x80 0xBF k _ v s (omega arith)))
 
-never : {A : Type 0} {v n : ℕ} → broken ≡ whole v n → A
+-- what is broken is no character
+pub never : {A : Type 0} {v n : ℕ} → broken ≡ whole v n → A
 never e = let z : _≡_ {A = ℕ} 0 1 = cc in absurd (omega arith)
 
 -- what a test lets through is in its range
@@ -85,7 +86,8 @@ passed : (low high b : ℕ) {v n : ℕ} {f : Front} → cond (between low high b
 passed low high b e =
     by-test (between low high b) (λ t. (search (leb-true, and-first), search (leb-true, and-second), rw t at e)) (λ t. never (rw t at e))
 
-shorter : (f : Front) {v n : ℕ} → longer f ≡ whole v n → (m : ℕ) × (f ≡ whole v m) × (n ≡ suc m)
+-- a character with a byte before it was one of a byte less
+pub shorter : (f : Front) {v n : ℕ} → longer f ≡ whole v n → (m : ℕ) × (f ≡ whole v m) × (n ≡ suc m)
 shorter (whole w m) e = (m, cc, cc)
 shorter broken e = never e
 

@@ -10,7 +10,7 @@ use lib.ListN.{length, take}
 use lib.Dec.{leb}
 use borrow.Author.Tests.{leb-true, leb-false}
 use Rattle.patterns.specs.Pattern.{Pat, Matches, longest}
-use Rattle.patterns.specs.Bools.{and-first, and-second}
+use Rattle.patterns.specs.Lists.{All, all-append}
 use Rattle.patterns.specs.Longest.{Longest, Right, is-none, is-longest, longest-right}
 use Rattle.tokens.specs.Tokens.{Rule}
 use Rattle.tokens.specs.Scan.{Hit, hit, best}
@@ -18,19 +18,6 @@ use Rattle.tokens.specs.Scan.{Hit, hit, best}
 -- r matches no prefix of s of n bytes or more
 abbrev pub Below : List ℕ → ℕ → Rule → Type 0
 Below s n r = (m : ℕ) → n ≤ m → m ≤ length s → Matches (r .pattern) (take m s) → ⊥
-
-abbrev pub Every : (Rule → Type 0) → List Rule → Type 0
-Every P [] = Unit {0}
-Every P (r ∷ rs) = P r × Every P rs
-
--- a test of every rule, and what it says
-abbrev pub every : (Rule → Bool) → List Rule → Bool
-every f [] = true
-every f (r ∷ rs) = f r && every f rs
-
-pub every-right : (f : Rule → Bool) (rs : List Rule) → every f rs ≡ true → Every (λ r. f r ≡ true) rs
-every-right f [] e = tt
-every-right f (r ∷ rs) e = (and-first (f r) (every f rs) e, every-right f rs (and-second (f r) (every f rs) e))
 
 -- the rule that wins: those before it match less, and those behind it no more
 pub record Wins (rs : List Rule) (s : List ℕ) (h : Hit) : Type 0 where
@@ -41,32 +28,26 @@ pub record Wins (rs : List Rule) (s : List ℕ) (h : Hit) : Type 0 where
   pub kind : h .kind ≡ rule .kind
   pub taken : 1 ≤ h .len
   pub matched : Longest (rule .pattern) s (h .len)
-  pub shorter : Every (Below s (h .len)) before
-  pub no-longer : Every (Below s (suc (h .len))) behind
+  pub shorter : All (Below s (h .len)) before
+  pub no-longer : All (Below s (suc (h .len))) behind
 
 pub data Best (rs : List Rule) (s : List ℕ) (h : Hit) : Type 0 where
-  none : h ≡ hit 0 0 → Every (Below s 1) rs → Best rs s h
+  none : h ≡ hit 0 0 → All (Below s 1) rs → Best rs s h
   won : Wins rs s h → Best rs s h
 
-every-append : (P : Rule → Type 0) (xs ys : List Rule) → Every P xs → Every P ys → Every P (xs ++ ys)
-every-append P [] ys a b = b
-every-append P (x ∷ xs) ys a b = (a .0, every-append P xs ys (a .1) b)
-
-every-behind : (P : Rule → Type 0) (xs ys : List Rule) → Every P (xs ++ ys) → Every P ys
-every-behind P [] ys a = a
-every-behind P (x ∷ xs) ys a = every-behind P xs ys (a .1)
-
-weaker : (s : List ℕ) (n m : ℕ) → n ≤ m → (rs : List Rule) → Every (Below s n) rs → Every (Below s m) rs
+weaker : (s : List ℕ) (n m : ℕ) → n ≤ m → (rs : List Rule) → All (Below s n) rs → All (Below s m) rs
 weaker s n m h [] a = tt
 weaker s n m h (r ∷ rs) a = (λ k l. a .0 k (omega arith), weaker s n m h rs (a .1))
 
 -- what the winner leaves to any rule
-all-below : {rs : List Rule} {s : List ℕ} {h : Hit} (n : ℕ) → h .len ≤ n → Best rs s h → Every (Below s (suc n)) rs
+all-below : {rs : List Rule} {s : List ℕ} {h : Hit} (n : ℕ) → h .len ≤ n → Best rs s h → All (Below s (suc n)) rs
 all-below {rs} {s} n l (none e a) = weaker s 1 (suc n) (omega arith) rs a
 all-below {s} {h} n l (won w) =
     rw (w .listed)
-    (every-append (Below s (suc n)) (w .before) (w .rule ∷ w .behind) (weaker s (h .len) (suc n) (omega arith) (w .before) (w .shorter))
-    (λ m k. w .matched .most m (omega arith), weaker s (suc (h .len)) (suc n) (omega arith) (w .behind) (w .no-longer)))
+    (all-append (Below s (suc n)) (w .before) (w .rule ∷ w .behind) .1 (
+      weaker s (h .len) (suc n) (omega arith) (w .before) (w .shorter),
+      (λ m k. w .matched .most m (omega arith), weaker s (suc (h .len)) (suc n) (omega arith) (w .behind) (w .no-longer)),
+    ))
 
 -- how far a rule reaches
 below-longest : (r : Rule) (s : List ℕ) (n : ℕ) → 1 ≤ n → longest (r .pattern) s < n → Below s n r
@@ -141,9 +122,9 @@ best-le rs s = go (best-right rs s)
     go (won w) = w .matched .inside
 
 -- what holds of every rule holds of the one that wins
-pub best-rule : (P : ℕ → Type 0) (rs : List Rule) (s : List ℕ) → Every (λ r. P (r .kind)) rs → 1 ≤ (best rs s) .len → P ((best rs s) .kind)
+pub best-rule : (P : ℕ → Type 0) (rs : List Rule) (s : List ℕ) → All (λ r. P (r .kind)) rs → 1 ≤ (best rs s) .len → P ((best rs s) .kind)
 best-rule P rs s a l = go (best-right rs s) l
   where
     go : {h : Hit} → Best rs s h → 1 ≤ h .len → P (h .kind)
     go (none e b) l = absurd (omega (arith, ap (λ (x : Hit). x .len) e))
-    go (won w) l = rw (w .kind) (every-behind (λ r. P (r .kind)) (w .before) (w .rule ∷ w .behind) (rw (w .listed) at a) .0)
+    go (won w) l = rw (w .kind) (all-append (λ r. P (r .kind)) (w .before) (w .rule ∷ w .behind) .0 (rw (w .listed) at a) .1 .0)

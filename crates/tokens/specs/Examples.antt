@@ -1,20 +1,19 @@
--- Examples that pin the definitions line by line: every keyword and operator, texts that are and are not one token, the Unicode tables.
+-- Examples that pin the definitions: every keyword and operator, texts that are and are not one token, classes, the Unicode tables.
 -- Each is computed by the definitions themselves. Assumes nothing.
-use Prim.Native.Nat.{ℕ, zero, suc, _+_}
+use Prim.Native.Nat.{ℕ, _+_}
 use Prim.Native.String.{String}
 use mathlib.Core.Path.{_≡_, refl}
-use mathlib.Core.Bool.{Bool, true, false, cond, not, _&&_}
+use mathlib.Core.Bool.{Bool, true, cond, not, _&&_}
 use mathlib.Core.List.{List, [], _∷_, map}
 use lib.ListN.{length}
 use lib.Dec.{leb, eqb}
-use Rattle.patterns.specs.Utf8.{Class}
+use Rattle.patterns.specs.Lists.{each, members}
 use Rattle.patterns.specs.Pattern.{nullable}
 use Rattle.tokens.specs.declared.Mode.{Mode}
 use Rattle.tokens.specs.declared.Mode.the-variants.{Normal, HexPattern, HexJump}
-use Rattle.tokens.specs.Unicode.{digits-16, white}
+use Rattle.tokens.specs.Unicode.{in-runs, digits-16, white}
 use Rattle.tokens.specs.Tokens.{ascii, tables-1, letter, dec, oct, hex, word-start, hex-or-mark, blank}
-use Rattle.tokens.specs.Scan.{best, rules}
-use Rattle.tokens.specs.BestLaws.{every}
+use Rattle.tokens.specs.Scan.{best, rules, token, reader, listing, list-from}
 
 -- quoted texts
 escapes : ascii "a\"\\\n\r\t/" ≡ 97 ∷ 34 ∷ 92 ∷ 10 ∷ 13 ∷ 9 ∷ 47 ∷ []
@@ -59,17 +58,17 @@ unfolding kinds
 numbers = refl
 
 -- strings, regexps and comments, and what breaks them: a bare LF, an escaped LF, a star or slash first, a third modifier, `/*/`
-texts : kinds Normal ("\"\"" ∷ "\"a\\\"b\"" ∷ "\"\"\"a\nb\"\"\"" ∷ "\"a\nb\"" ∷ "\"\\\n\"" ∷ "\"\"\"\\\n\"\"\"" ∷ "\"\"\"a\"b\"\"\"" ∷ [])
-    ≡ 75 ∷ 75 ∷ 75 ∷ 0 ∷ 0 ∷ 0 ∷ 0 ∷ []
+texts : kinds Normal ("\"\"" ∷ "\"a\\\"b\"" ∷ "\"\"\"a\nb\"\"\"" ∷ "\"\"\"\"\"\"" ∷ "\"\\\"" ∷ "\"\"\"\\\"\"\"" ∷ "\"a\nb\"" ∷ "\"\\\n\"" ∷ "\"\"\"\\\n\"\"\"" ∷ "\"\"\"a\"b\"\"\"" ∷ [])
+    ≡ 75 ∷ 75 ∷ 75 ∷ 75 ∷ 0 ∷ 0 ∷ 0 ∷ 0 ∷ 0 ∷ 0 ∷ []
 unfolding kinds
 texts = refl
 
-regexps : kinds Normal ("/a/" ∷ "/\\//i" ∷ "/a*/is" ∷ "/*a/" ∷ "//a" ∷ "/a\n/" ∷ "/\\\n/" ∷ "/a/isx" ∷ "/a/1" ∷ [])
-    ≡ 76 ∷ 76 ∷ 76 ∷ 0 ∷ 77 ∷ 0 ∷ 0 ∷ 0 ∷ 0 ∷ []
+regexps : kinds Normal ("/a/" ∷ "/\\//i" ∷ "/a*/is" ∷ "/*a/" ∷ "//a" ∷ "/a\n/" ∷ "/\n/" ∷ "/\\/" ∷ "/a\\/" ∷ "/\\\n/" ∷ "/a/isx" ∷ "/a/1" ∷ [])
+    ≡ 76 ∷ 76 ∷ 76 ∷ 0 ∷ 77 ∷ 0 ∷ 0 ∷ 0 ∷ 0 ∷ 0 ∷ 0 ∷ 0 ∷ []
 unfolding kinds
 regexps = refl
 
-comments : kinds Normal ("/**/" ∷ "/* a\n*b**/" ∷ "/*/" ∷ "/*a*/b*/" ∷ "//" ∷ "// a\r" ∷ "//\n" ∷ []) ≡ 77 ∷ 77 ∷ 0 ∷ 0 ∷ 77 ∷ 77 ∷ 0 ∷ []
+comments : kinds Normal ("/**/" ∷ "/* a\n*b**/" ∷ "/*/" ∷ "/*a*/b*/" ∷ "/***/" ∷ "/***/b*/" ∷ "//" ∷ "// a\r" ∷ "//\n" ∷ []) ≡ 77 ∷ 77 ∷ 0 ∷ 0 ∷ 77 ∷ 0 ∷ 77 ∷ 77 ∷ 0 ∷ []
 unfolding kinds
 comments = refl
 
@@ -87,23 +86,31 @@ hex-jump : kinds HexJump ("-" ∷ "12" ∷ "0x1F" ∷ "0o17" ∷ " " ∷ "\n" �
 unfolding kinds
 hex-jump = refl
 
+-- blanks and digits beyond ASCII are characters, not bytes: U+00A0 and U+2003; U+0663 in a word and alone
+characters : map (one-token Normal) ((0xC2 ∷ 0xA0 ∷ 0xE2 ∷ 0x80 ∷ 0x83 ∷ []) ∷ (0xA0 ∷ []) ∷ (0x24 ∷ 0xD9 ∷ 0xA3 ∷ []) ∷ (0xD9 ∷ 0xA3 ∷ []) ∷ [])
+    ≡ 78 ∷ 0 ∷ 68 ∷ 0 ∷ []
+unfolding one-token
+characters = refl
+
 -- a byte that is no UTF-8 may stand in a block comment of normal mode and not in one of pattern mode
 ill-formed : one-token Normal (0x2F ∷ 0x2A ∷ 0xFF ∷ 0x2A ∷ 0x2F ∷ []) ∷ one-token HexPattern (0x2F ∷ 0x2A ∷ 0xFF ∷ 0x2A ∷ 0x2F ∷ []) ∷ [] ≡ 77 ∷ 0 ∷ []
 unfolding one-token
 ill-formed = refl
 
+-- the smallest sources on which the Rust does otherwise (docs/DIFFERENCES.md): a quote and a blank, two bytes of a character cut off
+apart-from-rust : list-from tables-1 (0x22 ∷ 0x20 ∷ []) (reader 0 Normal) ∷ list-from tables-1 (0xE2 ∷ 0x80 ∷ []) (reader 0 Normal) ∷ []
+    ≡ listing (token 82 0 1 ∷ token 78 1 2 ∷ []) (reader 2 Normal) ∷ listing (token 81 0 1 ∷ token 81 1 2 ∷ []) (reader 2 Normal) ∷ []
+unfolding list-from
+apart-from-rust = refl
+
 -- no rule of any mode matches the empty text
-never-empty : (m : Mode) → every (λ r. not (nullable (r .pattern))) (rules tables-1 m) ≡ true
+never-empty : (m : Mode) → each (λ r. not (nullable (r .pattern))) (rules tables-1 m) ≡ true
 unfolding rules
 never-empty Normal = refl
 never-empty HexPattern = refl
 never-empty HexJump = refl
 
--- The classes, as the list of their members from the last to the first.
-members : ℕ → Class → List ℕ
-members zero f = []
-members (suc n) f = elim (f n) [ true ↦ n ∷ members n f | false ↦ members n f ]
-
+-- the classes, by their members
 classes : map (members 256) (dec ∷ oct ∷ hex ∷ hex-or-mark ∷ letter ∷ word-start ∷ [])
     ≡ ascii "9876543210"
     ∷ ascii "76543210"
@@ -127,20 +134,27 @@ blank-run : members 0x3100 blank
 unfolding members
 blank-run = refl
 
--- Nd of Unicode 16.0: 76 runs of ten, in order and apart, whose first values add up as those of the published table do
+-- Nd of Unicode 16.0: 76 runs of ten, in order and apart; the sum of their first values, so that no one of them can move
 sum : List ℕ → ℕ
 sum [] = 0
 sum (x ∷ xs) = x + sum xs
 
-apart : List ℕ → Bool
-apart [] = true
-apart (d ∷ []) = true
-apart (d ∷ e ∷ ds) = leb (d + 10) e && apart (e ∷ ds)
+spaced : List ℕ → Bool
+spaced [] = true
+spaced (d ∷ []) = true
+spaced (d ∷ e ∷ ds) = leb (d + 10) e && spaced (e ∷ ds)
 
 nd-runs : length digits-16 ∷ sum digits-16 ∷ [] ≡ 76 ∷ 3988803 ∷ []
 unfolding sum digits-16
 nd-runs = refl
 
-nd-apart : apart digits-16 ≡ true
-unfolding apart digits-16
-nd-apart = refl
+-- a run has ten
+nd-first : members 0x700 (in-runs digits-16)
+    ≡ 0x6F9 ∷ 0x6F8 ∷ 0x6F7 ∷ 0x6F6 ∷ 0x6F5 ∷ 0x6F4 ∷ 0x6F3 ∷ 0x6F2 ∷ 0x6F1 ∷ 0x6F0 ∷
+    0x669 ∷ 0x668 ∷ 0x667 ∷ 0x666 ∷ 0x665 ∷ 0x664 ∷ 0x663 ∷ 0x662 ∷ 0x661 ∷ 0x660 ∷ ascii "9876543210"
+unfolding members digits-16
+nd-first = refl
+
+nd-spaced : spaced digits-16 ≡ true
+unfolding spaced digits-16
+nd-spaced = refl

@@ -8,6 +8,7 @@ use mathlib.Core.List.{List, [], _∷_}
 use native.Mathlib.Omega.{arith}
 use lib.ListN.{length, drop, length-drop}
 use Rattle.patterns.specs.Utf8.{Class, between, Front, whole, broken, decode}
+use Rattle.patterns.specs.Lists.{each, each-right}
 use Rattle.patterns.specs.Longest.{longest-le}
 use Rattle.tokens.specs.declared.Offset.{Offset}
 use Rattle.tokens.specs.declared.Mode.{Mode}
@@ -19,7 +20,7 @@ use Rattle.tokens.specs.declared.Scanned.the-variants.{End, Found}
 use Rattle.tokens.specs.Kinds.{INVALID-UTF8, UNKNOWN}
 use Rattle.tokens.specs.Tokens.{Tables, tables-1}
 use Rattle.tokens.specs.Scan.{best, rules, tried, Choice, plain, unmatched, or-else, choose, scan-rest, scan}
-use Rattle.tokens.specs.BestLaws.{every, every-right, best-le, best-rule}
+use Rattle.tokens.specs.BestLaws.{best-le, best-rule}
 
 -- a choice takes something, and no more than the l bytes that there are
 record Fair (l : ℕ) (c : Choice) : Type 0 where
@@ -76,7 +77,7 @@ scan-end t src r = (λ e. rw e at (allowed t src r), λ h. past (scan t src r) (
     past (Found x r′) a h = absurd (let e : x .start .0 ≡ r .place .0 = ap (λ (o : Offset). o .0) (a .starts) in omega (arith, a .longer, a .within))
 
 -- The kinds: where every rule's kind is in a class, and those of the two tokens that no rule makes, every token's kind is.
-module _ (c : Class) (t : Tables) (listed : (m : Mode) → every (λ r. c (r .kind)) (rules t m) ≡ true) (invalid : c INVALID-UTF8 ≡ true) (unknown : c UNKNOWN ≡ true) where
+module _ (c : Class) (t : Tables) (listed : (m : Mode) → each (λ r. c (r .kind)) (rules t m) ≡ true) (invalid : c INVALID-UTF8 ≡ true) (unknown : c UNKNOWN ≡ true) where
   unmatched-kind : (f : Front) (s : List ℕ) → c ((unmatched f s) .kind) ≡ true
   unfolding unmatched
   unmatched-kind broken s = invalid
@@ -91,7 +92,7 @@ module _ (c : Class) (t : Tables) (listed : (m : Mode) → every (λ r. c (r .ki
   choose-kind [] s = unmatched-kind (decode s) s
   choose-kind (m ∷ ms) s =
       or-else-kind m ((best (rules t m) s) .kind) ((best (rules t m) s) .len) (choose t ms s)
-      (best-rule (λ k. c k ≡ true) (rules t m) s (every-right (λ r. c (r .kind)) (rules t m) (listed m))) (choose-kind ms s)
+      (best-rule (λ k. c k ≡ true) (rules t m) s (each-right (λ r. c (r .kind)) (rules t m) (listed m))) (choose-kind ms s)
 
   rest-kind : (m : Mode) (at : ℕ) (s : List ℕ) (x : Token) (r′ : Reader) → scan-rest t m at s ≡ Found x r′ → c (x .kind) ≡ true
   unfolding scan-rest
@@ -103,7 +104,7 @@ module _ (c : Class) (t : Tables) (listed : (m : Mode) → every (λ r. c (r .ki
   scan-kind src r x r′ e = rest-kind (r .mode) (r .place .0) (drop (r .place .0) src) x r′ e
 
 -- document 01's kinds
-pub kinds-1 : (m : Mode) → every (λ r. between 1 82 (r .kind)) (rules tables-1 m) ≡ true
+pub kinds-1 : (m : Mode) → each (λ r. between 1 82 (r .kind)) (rules tables-1 m) ≡ true
 unfolding rules
 kinds-1 Normal = refl
 kinds-1 HexPattern = refl

@@ -1,5 +1,5 @@
--- At equal length a keyword beats IDENT, and no other tie exists: two rules of a mode that match one text of bytes are of one kind, or
--- a keyword and IDENT. A test over all pairs of rules is computed (apart); a float has a dot, an integer none. Assumes nothing.
+-- No tie exists but a keyword with IDENT: two rules of a mode that match one text of bytes are of one kind, or a keyword and IDENT.
+-- A test over all pairs of rules is computed (Apart.antt); a float has a dot, an integer none. Assumes nothing.
 use Prim.Native.Nat.{ℕ, _≤_}
 use mathlib.Core.Path.{_≡_, refl, sym}
 use mathlib.Core.Bool.{Bool, true, false, not, _&&_, _||_}
@@ -10,6 +10,7 @@ use borrow.Author.Tests.{eqb-true, leb-true}
 use Rattle.patterns.specs.Utf8.{Class}
 use Rattle.patterns.specs.Pattern.{Pat, Matches, deriv}
 use Rattle.patterns.specs.Bools.{and-first, and-second, or-cases}
+use Rattle.patterns.specs.Lists.{each}
 use Rattle.patterns.specs.Apart.{Bytes, live, parted, apart, Disjoint, parted-right, apart-right, within, within-right, needs, needs-right}
 use Rattle.tokens.specs.declared.Mode.{Mode}
 use Rattle.tokens.specs.declared.Mode.the-variants.{Normal, HexPattern, HexJump}
@@ -64,15 +65,10 @@ sorted-out : Rule → List ℕ → Rule → Bool
 unfolding excused distinct
 sorted-out r firsts x = elim (excused (r .kind) (x .kind)) [ true ↦ true | false ↦ distinct r firsts x ]
 
-against : Rule → List ℕ → List Rule → Bool
-unfolding sorted-out
-against r firsts [] = true
-against r firsts (x ∷ xs) = sorted-out r firsts x && against r firsts xs
-
 tie-free : List Rule → Bool
-unfolding against live
+unfolding sorted-out live
 tie-free [] = true
-tie-free (r ∷ rs) = let firsts = live 256 (r .pattern) in against r firsts rs && tie-free rs
+tie-free (r ∷ rs) = let firsts = live (r .pattern) in each (sorted-out r firsts) rs && tie-free rs
 
 modes-tie-free : (m : Mode) → tie-free (rules tables-1 m) ≡ true
 unfolding tie-free rules
@@ -87,17 +83,17 @@ unfolding dotted
 dotted-right a r e u h m n =
     needs-right no-dot a (and-first (needs no-dot a) (within no-dot r) e) u h m (within-right no-dot r (and-second (needs no-dot a) (within no-dot r) e) u h n)
 
-distinct-right : (r x : Rule) → distinct r (live 256 (r .pattern)) x ≡ true → Disjoint (r .pattern) (x .pattern)
+distinct-right : (r x : Rule) → distinct r (live (r .pattern)) x ≡ true → Disjoint (r .pattern) (x .pattern)
 unfolding distinct after-byte
 distinct-right r x e = go (eqb (r .kind) FLOAT-LIT && dotted (r .pattern) (x .pattern)) refl e
   where
     go : (t : Bool) → (eqb (r .kind) FLOAT-LIT && dotted (r .pattern) (x .pattern)) ≡ t
-        → elim t [ true ↦ true | false ↦ parted (live 256 (r .pattern)) (after-byte (r .pattern) (x .pattern)) (r .pattern) (x .pattern) ] ≡ true
+        → elim t [ true ↦ true | false ↦ parted (live (r .pattern)) (after-byte (r .pattern) (x .pattern)) (r .pattern) (x .pattern) ] ≡ true
         → Disjoint (r .pattern) (x .pattern)
     go true q e = dotted-right (r .pattern) (x .pattern) (and-second (eqb (r .kind) FLOAT-LIT) (dotted (r .pattern) (x .pattern)) q)
     go false q e = parted-right (after-byte (r .pattern) (x .pattern)) (r .pattern) (x .pattern) (λ b. apart-right 10 (deriv b (r .pattern)) (deriv b (x .pattern))) e
 
-pair-ties : (r x : Rule) → sorted-out r (live 256 (r .pattern)) x ≡ true → Ties r x
+pair-ties : (r x : Rule) → sorted-out r (live (r .pattern)) x ≡ true → Ties r x
 unfolding sorted-out excused
 pair-ties r x e u h m n = go (excused (r .kind) (x .kind)) refl e
   where
@@ -107,14 +103,13 @@ pair-ties r x e u h m n = go (excused (r .kind) (x .kind)) refl e
         (λ z. keyword-ident (leb-true (r .kind) 40 (and-first (leb (r .kind) 40) (eqb (x .kind) IDENT) z)) (eqb-true (x .kind) IDENT (and-second (leb (r .kind) 40) (eqb (x .kind) IDENT) z)))
         (or-cases (eqb (r .kind) (x .kind)) (leb (r .kind) 40 && eqb (x .kind) IDENT) q)
 
-    go : (t : Bool) → excused (r .kind) (x .kind) ≡ t → elim t [ true ↦ true | false ↦ distinct r (live 256 (r .pattern)) x ] ≡ true → Tie (r .kind) (x .kind)
+    go : (t : Bool) → excused (r .kind) (x .kind) ≡ t → elim t [ true ↦ true | false ↦ distinct r (live (r .pattern)) x ] ≡ true → Tie (r .kind) (x .kind)
     go true q e = tie q
     go false q e = absurd (distinct-right r x e u h m n)
 
-head-ties : (r x : Rule) (rs : List Rule) → against r (live 256 (r .pattern)) rs ≡ true → In x rs → Ties r x
-unfolding against
-head-ties r x rs e (here {rs = xs}) = pair-ties r x (and-first (sorted-out r (live 256 (r .pattern)) x) (against r (live 256 (r .pattern)) xs) e)
-head-ties r x rs e (there {x = y} {rs = xs} i) = head-ties r x xs (and-second (sorted-out r (live 256 (r .pattern)) y) (against r (live 256 (r .pattern)) xs) e) i
+head-ties : (r x : Rule) (rs : List Rule) → each (sorted-out r (live (r .pattern))) rs ≡ true → In x rs → Ties r x
+head-ties r x rs e (here {rs = xs}) = pair-ties r x (and-first (sorted-out r (live (r .pattern)) x) (each (sorted-out r (live (r .pattern))) xs) e)
+head-ties r x rs e (there {x = y} {rs = xs} i) = head-ties r x xs (and-second (sorted-out r (live (r .pattern)) y) (each (sorted-out r (live (r .pattern))) xs) e) i
 
 other-way : {k k′ : ℕ} → Tie k k′ → Tie k′ k
 other-way (same e) = same (sym e)
@@ -124,9 +119,9 @@ other-way (ident-keyword e h) = keyword-ident h e
 list-ties : (r r′ : Rule) (rs : List Rule) → tie-free rs ≡ true → In r rs → In r′ rs → Ties r r′
 unfolding tie-free
 list-ties r r′ rs e here here u h m n = same refl
-list-ties r r′ rs e (here {rs = xs}) (there j) u h m n = head-ties r r′ xs (and-first (against r (live 256 (r .pattern)) xs) (tie-free xs) e) j u h m n
-list-ties r r′ rs e (there i) (here {rs = xs}) u h m n = other-way (head-ties r′ r xs (and-first (against r′ (live 256 (r′ .pattern)) xs) (tie-free xs) e) i u h n m)
-list-ties r r′ rs e (there {x = x} {rs = xs} i) (there j) u h m n = list-ties r r′ xs (and-second (against x (live 256 (x .pattern)) xs) (tie-free xs) e) i j u h m n
+list-ties r r′ rs e (here {rs = xs}) (there j) u h m n = head-ties r r′ xs (and-first (each (sorted-out r (live (r .pattern))) xs) (tie-free xs) e) j u h m n
+list-ties r r′ rs e (there i) (here {rs = xs}) u h m n = other-way (head-ties r′ r xs (and-first (each (sorted-out r′ (live (r′ .pattern))) xs) (tie-free xs) e) i u h n m)
+list-ties r r′ rs e (there {x = x} {rs = xs} i) (there j) u h m n = list-ties r r′ xs (and-second (each (sorted-out x (live (x .pattern))) xs) (tie-free xs) e) i j u h m n
 
 -- any two rules of a mode
 pub no-other-tie : (mode : Mode) (r r′ : Rule) → In r (rules tables-1 mode) → In r′ (rules tables-1 mode) → Ties r r′
