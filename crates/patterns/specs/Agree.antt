@@ -7,14 +7,16 @@ use mathlib.Core.List.{List, [], _∷_}
 use native.Mathlib.Omega.{arith}
 use lib.ListN.{length, drop, length-drop}
 use lib.Seq.{drop-drop}
-use Rattle.patterns.specs.Utf8.{Class, Front, whole, broken, decode}
+use Rattle.patterns.specs.declared.Front.{Front}
+use Rattle.patterns.specs.declared.Front.the-variants.{Whole, Broken}
+use Rattle.patterns.specs.Utf8.{Class, decode}
 use Rattle.patterns.specs.Utf8Laws.{decoded-size}
 use Rattle.patterns.specs.Pattern.{byte, char, seq, star, follow, if-in, walk, longest}
 use Rattle.patterns.specs.Walk.{char-then, walk-char}
 
 -- two classes agree on the characters of a text, wherever one is read
 abbrev pub Agree : Class → Class → List ℕ → Type 0
-Agree p q s = (k v n : ℕ) → decode (drop k s) ≡ whole v n → p v ≡ q v
+Agree p q s = (k v n : ℕ) → decode (drop k s) ≡ Whole v n → p v ≡ q v
 
 module _ (p q : Class) where
   pub agree-drop : (s : List ℕ) (j : ℕ) → Agree p q s → Agree p q (drop j s)
@@ -30,8 +32,8 @@ module _ (p q : Class) where
     where
       go : (d : Front) → decode s ≡ d → ((n : ℕ) → length (drop n s) ≤ turns → walk (star (char p)) (drop n s) (k + n) k ≡ walk (star (char q)) (drop n s) (k + n) k)
           → char-then p (star (char p)) d s k k ≡ char-then q (star (char q)) d s k k
-      go broken e f = refl
-      go (whole v n) e f =
+      go Broken e f = refl
+      go (Whole v n) e f =
           let z : (1 ≤ n) × (n ≤ length s) = decoded-size s v n e in
           let g : walk (star (char p)) (drop n s) (k + n) k ≡ walk (star (char q)) (drop n s) (k + n) k = f n (omega (arith, length-drop n s, z .0, z .1)) in
           rw (a 0 v n e, g)

@@ -7,7 +7,11 @@ use mathlib.Core.Logic.{_↔_, Iff·rfl, Iff·symm, Iff·trans, _⊎_, inl, inr,
 use mathlib.Core.List.{List, [], _∷_, _++_, append-assoc}
 use native.Mathlib.Omega.{arith}
 use lib.ListN.{length}
-use Rattle.patterns.specs.Utf8.{Class, between, Front, whole, broken, Lead, alone, more, bad, lead, join, longer, finish, after-lead, decode}
+use Rattle.patterns.specs.declared.Front.{Front}
+use Rattle.patterns.specs.declared.Front.the-variants.{Whole, Broken}
+use Rattle.patterns.specs.declared.Lead.{Lead}
+use Rattle.patterns.specs.declared.Lead.the-variants.{Alone, More, Bad}
+use Rattle.patterns.specs.Utf8.{Class, between, lead, join, longer, finish, after-lead, decode}
 use Rattle.patterns.specs.Utf8Laws.{never, shorter}
 use Rattle.patterns.specs.Pattern.{Pat, nothing, empty, byte, char, part, seq, alt, star, OneByte, OneChar, Split, Many, done, again, Matches, follow}
 use Rattle.patterns.specs.Pattern.{nullable, is-nothing, either, if-in, char-after, part-after, deriv}
@@ -96,7 +100,7 @@ back-nil (x ∷ s) t e = cc
 no-cons : (b : ℕ) (s : List ℕ) → [] ≡ b ∷ s → ⊥
 no-cons b s e = let z : _≡_ {A = ℕ} 0 1 = cc in omega arith
 
-no-char : (p : Class) (n : ℕ) → OneChar p broken n → ⊥
+no-char : (p : Class) (n : ℕ) → OneChar p Broken n → ⊥
 no-char p n m = never (m .read)
 
 pub null-means : (r : Pat) → nullable r ≡ true ↔ Matches r []
@@ -134,11 +138,11 @@ length-nil : (u : List ℕ) → length u ≡ 0 → u ≡ []
 length-nil [] e = refl
 length-nil (x ∷ u) e = absurd (omega arith)
 
-last-means : (p : Class) (v : ℕ) (s : List ℕ) → Matches (if-in (p v)) s ↔ OneChar p (whole v 1) (suc (length s))
+last-means : (p : Class) (v : ℕ) (s : List ℕ) → Matches (if-in (p v)) s ↔ OneChar p (Whole v 1) (suc (length s))
 last-means p v s = (
   λ m.
       let h : (s ≡ []) × (p v ≡ true) = if-means (p v) s .0 m in
-      record { value = v; read = ap (λ (l : List ℕ). whole v (suc (length l))) (sym (h .0)); fits = h .1 },
+      record { value = v; read = ap (λ (l : List ℕ). Whole v (suc (length l))) (sym (h .0)); fits = h .1 },
   λ m.
       let e : v ≡ m .value = cc (m .read) in
       let f : 1 ≡ suc (length s) = cc (m .read) in
@@ -151,29 +155,29 @@ longer-means p f n = (
   λ m.
       let s = shorter f (m .read) in
       let e : s .0 ≡ n = omega (arith, s .2) in
-      record { value = m .value; read = s .1 ∙ ap (whole (m .value)) e; fits = m .fits },
+      record { value = m .value; read = s .1 ∙ ap (Whole (m .value)) e; fits = m .fits },
 )
 
-none-means : (p : Class) (n : ℕ) → ⊥ ↔ OneChar p broken n
+none-means : (p : Class) (n : ℕ) → ⊥ ↔ OneChar p Broken n
 none-means p n = (λ m. absurd m, no-char p n)
 
 lead-means : (p : Class) (b : ℕ) (l : Lead) (s : List ℕ) → Matches (char-after p b l) s ↔ OneChar p (after-lead b l s) (suc (length s))
 unfolding after-lead
-lead-means p b alone s = last-means p b s
-lead-means p b (more low high k bits) s = longer-means p (finish low high k bits s) (length s)
-lead-means p b bad s = none-means p (suc (length s))
+lead-means p b Alone s = last-means p b s
+lead-means p b (More low high k bits) s = longer-means p (finish low high k bits s) (length s)
+lead-means p b Bad s = none-means p (suc (length s))
 
 part-means : (p : Class) (low high k bits b : ℕ) (s : List ℕ)
     → Matches (part-after (between low high b) p k (join bits b)) s ↔ OneChar p (finish low high k bits (b ∷ s)) (suc (length s))
 unfolding finish
 part-means p low high zero bits b s = go (between low high b) (join bits b)
   where
-    go : (t : Bool) (w : ℕ) → Matches (part-after t p 0 w) s ↔ OneChar p (cond t (whole w 1) broken) (suc (length s))
+    go : (t : Bool) (w : ℕ) → Matches (part-after t p 0 w) s ↔ OneChar p (cond t (Whole w 1) Broken) (suc (length s))
     go true w = last-means p w s
     go false w = none-means p (suc (length s))
 part-means p low high (suc k) bits b s = go (between low high b) (join bits b)
   where
-    go : (t : Bool) (w : ℕ) → Matches (part-after t p (suc k) w) s ↔ OneChar p (cond t (longer (finish 0x80 0xBF k w s)) broken) (suc (length s))
+    go : (t : Bool) (w : ℕ) → Matches (part-after t p (suc k) w) s ↔ OneChar p (cond t (longer (finish 0x80 0xBF k w s)) Broken) (suc (length s))
     go true w = longer-means p (finish 0x80 0xBF k w s) (length s)
     go false w = none-means p (suc (length s))
 

@@ -7,7 +7,11 @@ use mathlib.Core.Logic.{_⊎_}
 use mathlib.Core.List.{List, [], _∷_, _++_}
 use lib.ListN.{length}
 use lib.Dec.{eqb}
-use Rattle.patterns.specs.Utf8.{Class, between, Front, whole, Lead, alone, more, bad, lead, join, finish, decode}
+use Rattle.patterns.specs.declared.Front.{Front}
+use Rattle.patterns.specs.declared.Front.the-variants.{Whole}
+use Rattle.patterns.specs.declared.Lead.{Lead}
+use Rattle.patterns.specs.declared.Lead.the-variants.{Alone, More, Bad}
+use Rattle.patterns.specs.Utf8.{Class, between, lead, join, finish, decode}
 
 -- A pattern. `byte` takes one byte of a class, `char` one well-formed character of a class, and `part` what is left of a character
 -- once some of its bytes are read, as `finish` reads it.
@@ -29,7 +33,7 @@ pub record OneByte (p : Class) (u : List ℕ) : Type 0 where
 -- one whole character of n bytes, of the class p
 pub record OneChar (p : Class) (f : Front) (n : ℕ) : Type 0 where
   pub value : ℕ
-  pub read : f ≡ whole value n
+  pub read : f ≡ Whole value n
   pub fits : p value ≡ true
 
 -- a text of P and then one of Q
@@ -119,9 +123,9 @@ if-in true = empty
 if-in false = nothing
 
 abbrev pub char-after : Class → ℕ → Lead → Pat
-char-after p b alone = if-in (p b)
-char-after p b (more low high k bits) = part p low high k bits
-char-after p b bad = nothing
+char-after p b Alone = if-in (p b)
+char-after p b (More low high k bits) = part p low high k bits
+char-after p b Bad = nothing
 
 abbrev pub part-after : Bool → Class → ℕ → ℕ → Pat
 part-after false p k bits = nothing

@@ -9,7 +9,11 @@ use native.Mathlib.Omega.{arith}
 use lib.ListN.{length, take, length-take}
 use lib.Dec.{leb, ltb}
 use borrow.Author.Tests.{lt-ltb, le-ltb, ltb-true, ltb-false, le-leb, leb-true, leb-false}
-use Rattle.patterns.specs.Utf8.{between, Front, whole, broken, Lead, alone, more, bad, lead, join, longer, finish, after-lead, decode, Scalar, trail, encode}
+use Rattle.patterns.specs.declared.Front.{Front}
+use Rattle.patterns.specs.declared.Front.the-variants.{Whole, Broken}
+use Rattle.patterns.specs.declared.Lead.{Lead}
+use Rattle.patterns.specs.declared.Lead.the-variants.{Alone, More, Bad}
+use Rattle.patterns.specs.Utf8.{between, lead, join, longer, finish, after-lead, decode, Scalar, trail, encode}
 use Rattle.patterns.specs.Bools.{and-first, and-second, by-test}
 
 -- v without its last k groups of six bits
@@ -31,15 +35,15 @@ Begins (suc (suc (suc k))) b x = ⊥
 
 -- Table 3-7: l allows the second byte that makes the bits x, and then k more.
 abbrev Allows : Lead → (k x : ℕ) → Type 0
-Allows alone k x = ⊥
-Allows (more low high n bits) k x = (n ≡ k) × (x / 64 ≡ bits) × (low ≤ trail x) × (trail x ≤ high)
-Allows bad k x = ⊥
+Allows Alone k x = ⊥
+Allows (More low high n bits) k x = (n ≡ k) × (x / 64 ≡ bits) × (low ≤ trail x) × (trail x ≤ high)
+Allows Bad k x = ⊥
 
 -- what l allows after b begins a scalar value
 abbrev Sound : ℕ → Lead → Type 0
-Sound b alone = b < 0x80
-Sound b (more low high k bits) = (0x80 ≤ low) × (high ≤ 0xBF) × ((x : ℕ) → Allows (more low high k bits) k x → Begins k b x)
-Sound b bad = Unit {0}
+Sound b Alone = b < 0x80
+Sound b (More low high k bits) = (0x80 ≤ low) × (high ≤ 0xBF) × ((x : ℕ) → Allows (More low high k bits) k x → Begins k b x)
+Sound b Bad = Unit {0}
 
 -- l is what the rows from the first byte t on say of b, and is right: it allows all that begins a scalar value, and nothing else.
 record Right (t b : ℕ) (l : Lead) : Type 0 where
@@ -71,29 +75,29 @@ allowed (suc (suc zero)) b x p = (table b) .complete (omega arith) x .2 p
 allowed (suc (suc (suc k))) b x p = absurd p
 
 -- the bytes after the first are read as they are written
-finishes : (low high k bits v : ℕ) (s : List ℕ) → Allows (more low high k bits) k (shift k v)
-    → finish low high k bits (trails k v ++ s) ≡ whole v (length (trails k v))
+finishes : (low high k bits v : ℕ) (s : List ℕ) → Allows (More low high k bits) k (shift k v)
+    → finish low high k bits (trails k v ++ s) ≡ Whole v (length (trails k v))
 unfolding finish
-finishes low high zero bits v s p = let (_, _, l, h) = p in simp le-leb (ap (λ (w : ℕ). whole w 1) (omega arith))
+finishes low high zero bits v s p = let (_, _, l, h) = p in simp le-leb (ap (λ (w : ℕ). Whole w 1) (omega arith))
 finishes low high (suc k) bits v s p = let (_, _, l, h) = p in simp le-leb (ap longer (finishes 0x80 0xBF k _ v s (omega arith)))
 
 -- what is broken is no character
-pub never : {A : Type 0} {v n : ℕ} → broken ≡ whole v n → A
+pub never : {A : Type 0} {v n : ℕ} → Broken ≡ Whole v n → A
 never e = let z : _≡_ {A = ℕ} 0 1 = cc in absurd (omega arith)
 
 -- what a test lets through is in its range
-passed : (low high b : ℕ) {v n : ℕ} {f : Front} → cond (between low high b) f broken ≡ whole v n → (low ≤ b) × (b ≤ high) × (f ≡ whole v n)
+passed : (low high b : ℕ) {v n : ℕ} {f : Front} → cond (between low high b) f Broken ≡ Whole v n → (low ≤ b) × (b ≤ high) × (f ≡ Whole v n)
 passed low high b e =
     by-test (between low high b) (λ t. (search (leb-true, and-first), search (leb-true, and-second), rw t at e)) (λ t. never (rw t at e))
 
 -- a character with a byte before it was one of a byte less
-pub shorter : (f : Front) {v n : ℕ} → longer f ≡ whole v n → (m : ℕ) × (f ≡ whole v m) × (n ≡ suc m)
-shorter (whole w m) e = (m, cc, cc)
-shorter broken e = never e
+pub shorter : (f : Front) {v n : ℕ} → longer f ≡ Whole v n → (m : ℕ) × (f ≡ Whole v m) × (n ≡ suc m)
+shorter (Whole w m) e = (m, cc, cc)
+shorter Broken e = never e
 
 -- and are written as they are read
-finished : (low high k bits : ℕ) (s : List ℕ) (v n : ℕ) → 0x80 ≤ low → high ≤ 0xBF → finish low high k bits s ≡ whole v n
-    → Allows (more low high k bits) k (shift k v) × (take n s ≡ trails k v) × (n ≡ length (trails k v))
+finished : (low high k bits : ℕ) (s : List ℕ) (v n : ℕ) → 0x80 ≤ low → high ≤ 0xBF → finish low high k bits s ≡ Whole v n
+    → Allows (More low high k bits) k (shift k v) × (take n s ≡ trails k v) × (n ≡ length (trails k v))
 unfolding finish
 finished low high k bits [] v n h i e = never e
 finished low high zero bits (b ∷ bs) v n h i e =
@@ -125,7 +129,7 @@ written (suc (suc zero)) b v p = (inr (omega arith), rw (le-ltb v 0x80 (omega ar
 written (suc (suc (suc k))) b v p = absurd p
 
 -- every scalar value's encoding decodes to it, whatever follows
-pub read-back : (v : ℕ) (s : List ℕ) → Scalar v → decode (encode v ++ s) ≡ whole v (length (encode v))
+pub read-back : (v : ℕ) (s : List ℕ) → Scalar v → decode (encode v ++ s) ≡ Whole v (length (encode v))
 unfolding decode
 read-back v s h =
     let p = plain v h in
@@ -133,12 +137,12 @@ read-back v s h =
     (λ q. by-less v 0x800 (λ r. many 0 (0xC0 + v / 64) (omega arith))
     (λ r. by-less v 0x10000 (λ t. many 1 (0xE0 + v / 64 / 64) (omega arith)) (λ t. many 2 (0xF0 + v / 64 / 64 / 64) (omega arith))))
   where
-    go : (k b : ℕ) (l : Lead) → Allows l k (shift k v) → after-lead b l (trails k v ++ s) ≡ whole v (suc (length (trails k v)))
-    go k b alone t = absurd t
-    go k b (more low high n bits) t = rw (t .0) (ap longer (finishes low high k bits v s (omega arith)))
-    go k b bad t = absurd t
+    go : (k b : ℕ) (l : Lead) → Allows l k (shift k v) → after-lead b l (trails k v ++ s) ≡ Whole v (suc (length (trails k v)))
+    go k b Alone t = absurd t
+    go k b (More low high n bits) t = rw (t .0) (ap longer (finishes low high k bits v s (omega arith)))
+    go k b Bad t = absurd t
 
-    many : (k b : ℕ) → Begins k b (shift k v) → decode (encode v ++ s) ≡ whole v (length (encode v))
+    many : (k b : ℕ) → Begins k b (shift k v) → decode (encode v ++ s) ≡ Whole v (length (encode v))
     many k b p = rw (written k b v p .1) (go k b (lead b) (allowed k b (shift k v) p))
 
 -- The first n bytes of s are the encoding of the scalar value v.
@@ -148,25 +152,25 @@ pub record Encoded (s : List ℕ) (v n : ℕ) : Type 0 where
   pub size : n ≡ length (encode v)
 
 -- whatever decodes is the encoding of a scalar value
-pub decoded : (s : List ℕ) (v n : ℕ) → decode s ≡ whole v n → Encoded s v n
+pub decoded : (s : List ℕ) (v n : ℕ) → decode s ≡ Whole v n → Encoded s v n
 unfolding decode
 decoded [] v n e = never e
 decoded (b ∷ bs) v n e = go (lead b) ((table b) .sound) e
   where
-    go : (l : Lead) → Sound b l → after-lead b l bs ≡ whole v n → Encoded (b ∷ bs) v n
-    go alone h e =
+    go : (l : Lead) → Sound b l → after-lead b l bs ≡ Whole v n → Encoded (b ∷ bs) v n
+    go Alone h e =
         let value : b ≡ v = cc in
         let size : n ≡ 1 = cc in
         record { scalar = inl (omega arith); bytes = rw (size, value, lt-ltb v 0x80 (omega arith)); size = rw (size, lt-ltb v 0x80 (omega arith)) }
-    go (more low high k bits) h e =
+    go (More low high k bits) h e =
         let f = shorter (finish low high k bits bs) e in
         let r = finished low high k bits bs v (f .0) (h .0) (h .1) (f .1) in
         let w = written k b v (h .2 (shift k v) (r .0)) in
         record { scalar = w .0; bytes = rw (f .2, w .1) (ap (b ∷_) (r .1)); size = rw (w .1) (f .2 ∙ ap suc (r .2)) }
-    go bad h e = never e
+    go Bad h e = never e
 
 -- so it is at least one byte, and no more than there are
-pub decoded-size : (s : List ℕ) (v n : ℕ) → decode s ≡ whole v n → (1 ≤ n) × (n ≤ length s)
+pub decoded-size : (s : List ℕ) (v n : ℕ) → decode s ≡ Whole v n → (1 ≤ n) × (n ≤ length s)
 unfolding decode
 decoded-size s v zero e = let d = decoded s v zero e in never (rw (← d .bytes) at (read-back v [] (d .scalar)))
 decoded-size s v (suc n) e = let d = decoded s v (suc n) e in omega (arith, ap length (d .bytes), length-take (suc n) s)

@@ -2,7 +2,7 @@
 -- q is left at the place i, and b is the end of the longest match so far; each law is one turn of `walk`. Assumes nothing.
 use Prim.Native.Nat.{ℕ, zero, suc, _+_, _≤_, _<_}
 use mathlib.Core.Path.{_≡_, refl, sym, ap, _∙_}
-use mathlib.Core.Bool.{Bool, true, false, cond, _&&_}
+use mathlib.Core.Bool.{Bool, true, false, cond, _&&_, false≢true}
 use mathlib.Core.List.{List, [], _∷_}
 use native.Mathlib.Nat.{add-zero, add-suc, suc-add}
 use native.Mathlib.Numerals.{add-one}
@@ -11,7 +11,13 @@ use native.Mathlib.Decide.{decLt}
 use lib.ListN.{length, getD, drop, drop-of-length-le, length-drop}
 use lib.Seq.{drop-cons, drop-drop, getD-drop}
 use lib.Dec.{eqb}
-use Rattle.patterns.specs.Utf8.{Class, between, Front, whole, broken, Lead, alone, more, bad, lead, join, longer, finish, after-lead, decode}
+use borrow.Author.Tests.{eq-eqb, ne-eqb}
+use Rattle.patterns.specs.declared.Front.{Front}
+use Rattle.patterns.specs.declared.Front.the-variants.{Whole, Broken}
+use Rattle.patterns.specs.declared.Lead.{Lead}
+use Rattle.patterns.specs.declared.Lead.the-variants.{Alone, More, Bad}
+use Rattle.patterns.specs.Utf8.{Class, between, lead, join, longer, finish, after-lead, decode}
+use Rattle.patterns.specs.Bools.{and-second}
 use Rattle.patterns.specs.Pattern.{Pat, nothing, empty, part, seq, literal, follow, nullable, if-in, char-after, part-after, deriv, walk, longest}
 
 -- The walk itself.
@@ -81,6 +87,20 @@ module _ {p : Pat} {s : List ℕ} {at : ℕ} {q : Pat} {i b : ℕ} (c : Came p s
   -- and another loop may go on for q alone
   pub onto : nullable q ≡ true → i + longest q (drop i s) ≡ at + longest p (drop at s)
   onto e = start q s i .same ∙ best-free q (drop i s) i i b e ∙ sym (c .same)
+
+-- q may be exchanged for a pattern that the byte at i treats alike
+pub swap : {p : Pat} {s : List ℕ} {at : ℕ} {q : Pat} {i b : ℕ} → Came p s at q i b → (q′ : Pat) → i < length s → nullable q ≡ nullable q′
+    → deriv (getD s i 0) q ≡ deriv (getD s i 0) q′ → Came p s at q′ i b
+unfolding walk
+swap {s} {q} {i} {b} c q′ h n e = record {
+  same = c .same ∙ rw (drop-cons s i 0)
+      (ap (λ (r : Pat). walk r (drop (suc i) s) (suc i) (cond (nullable q) i b)) e
+      ∙ ap (λ (t : Bool). walk (deriv (getD s i 0) q′) (drop (suc i) s) (suc i) (cond t i b)) n);
+}
+
+-- two patterns that have come to the same end alike
+pub both : {p p′ : Pat} {s : List ℕ} {at : ℕ} {q : Pat} {i b : ℕ} → Came p s at q i b → Came p′ s at q i b → at + longest p (drop at s) ≡ at + longest p′ (drop at s)
+both c d = c .same ∙ sym (d .same)
 
 -- nothing can follow
 pub done : {p : Pat} {s : List ℕ} {at i b : ℕ} → Came p s at empty i b → i ≡ at + longest p (drop at s)
@@ -164,16 +184,16 @@ module _ (f : Class) where
 
 -- the walk over a character of the class f and then r, by what stands at the front
 unfoldable pub char-then : Class → Pat → Front → List ℕ → ℕ → ℕ → ℕ
-char-then f r (whole v n) xs k b = cond (f v) (walk r (drop n xs) (k + n) b) b
-char-then f r broken xs k b = b
+char-then f r (Whole v n) xs k b = cond (f v) (walk r (drop n xs) (k + n) b) b
+char-then f r Broken xs k b = b
 
 module _ (f : Class) (r : Pat) where
   then-longer : (d : Front) (x : ℕ) (xs : List ℕ) (k b : ℕ) → char-then f r d xs (suc k) b ≡ char-then f r (longer d) (x ∷ xs) k b
   unfolding char-then
-  then-longer (whole v n) x xs k b = rw (suc-add, ← add-suc)
-  then-longer broken x xs k b = refl
+  then-longer (Whole v n) x xs k b = rw (suc-add, ← add-suc)
+  then-longer Broken x xs k b = refl
 
-  then-last : (v x : ℕ) (xs : List ℕ) (k b : ℕ) → walk (follow (if-in (f v)) r) xs (suc k) b ≡ char-then f r (whole v 1) (x ∷ xs) k b
+  then-last : (v x : ℕ) (xs : List ℕ) (k b : ℕ) → walk (follow (if-in (f v)) r) xs (suc k) b ≡ char-then f r (Whole v 1) (x ∷ xs) k b
   unfolding char-then
   then-last v x xs k b = rw add-one (go (f v))
     where
@@ -186,21 +206,21 @@ module _ (f : Class) (r : Pat) where
   walk-part [] low high m bits k b = refl
   walk-part (x ∷ xs) low high zero bits k b = go (between low high x) (join bits x)
     where
-      go : (t : Bool) (w : ℕ) → walk (follow (part-after t f 0 w) r) xs (suc k) b ≡ char-then f r (cond t (whole w 1) broken) (x ∷ xs) k b
+      go : (t : Bool) (w : ℕ) → walk (follow (part-after t f 0 w) r) xs (suc k) b ≡ char-then f r (cond t (Whole w 1) Broken) (x ∷ xs) k b
       go true w = then-last w x xs k b
       go false w = dead xs (suc k) b
   walk-part (x ∷ xs) low high (suc m) bits k b = go (between low high x) (join bits x) (walk-part xs 0x80 0xBF m (join bits x) (suc k) b)
     where
       go : (t : Bool) (w : ℕ) → walk (seq (part f 0x80 0xBF m w) r) xs (suc k) b ≡ char-then f r (finish 0x80 0xBF m w xs) xs (suc k) b
-          → walk (follow (part-after t f (suc m) w) r) xs (suc k) b ≡ char-then f r (cond t (longer (finish 0x80 0xBF m w xs)) broken) (x ∷ xs) k b
+          → walk (follow (part-after t f (suc m) w) r) xs (suc k) b ≡ char-then f r (cond t (longer (finish 0x80 0xBF m w xs)) Broken) (x ∷ xs) k b
       go true w e = e ∙ then-longer (finish 0x80 0xBF m w xs) x xs k b
       go false w e = dead xs (suc k) b
 
   walk-lead : (l : Lead) (x : ℕ) (xs : List ℕ) (k b : ℕ) → walk (follow (char-after f x l) r) xs (suc k) b ≡ char-then f r (after-lead x l xs) (x ∷ xs) k b
   unfolding after-lead char-then
-  walk-lead alone x xs k b = then-last x x xs k b
-  walk-lead (more low high m bits) x xs k b = walk-part xs low high m bits (suc k) b ∙ then-longer (finish low high m bits xs) x xs k b
-  walk-lead bad x xs k b = dead xs (suc k) b
+  walk-lead Alone x xs k b = then-last x x xs k b
+  walk-lead (More low high m bits) x xs k b = walk-part xs low high m bits (suc k) b ∙ then-longer (finish low high m bits xs) x xs k b
+  walk-lead Bad x xs k b = dead xs (suc k) b
 
   -- after the byte x, a pattern is left with the rest of a character of the class and then r
   abbrev pub Opens : Pat → ℕ → Type 0
@@ -216,16 +236,16 @@ module _ (f : Class) (r : Pat) where
     char-front = c .same ∙ walk-char q (drop i s) i b (rw (getD-drop i s 0 0, add-zero) o)
 
     -- a character of the class
-    pub char-in : {v n : ℕ} → decode (drop i s) ≡ whole v n → f v ≡ true → Came p s at r (i + n) (cond (nullable q) i b)
+    pub char-in : {v n : ℕ} → decode (drop i s) ≡ Whole v n → f v ≡ true → Came p s at r (i + n) (cond (nullable q) i b)
     unfolding char-then
     char-in {v} {n} d e = record { same = char-front ∙ rw (d, e, drop-drop) }
 
     -- another, or none
-    pub char-out : {v n : ℕ} → decode (drop i s) ≡ whole v n → f v ≡ false → cond (nullable q) i b ≡ at + longest p (drop at s)
+    pub char-out : {v n : ℕ} → decode (drop i s) ≡ Whole v n → f v ≡ false → cond (nullable q) i b ≡ at + longest p (drop at s)
     unfolding char-then
     char-out d e = sym (char-front ∙ rw (d, e))
 
-    pub char-broken : decode (drop i s) ≡ broken → cond (nullable q) i b ≡ at + longest p (drop at s)
+    pub char-broken : decode (drop i s) ≡ Broken → cond (nullable q) i b ≡ at + longest p (drop at s)
     unfolding char-then
     char-broken d = sym (char-front ∙ rw d)
 
@@ -236,6 +256,33 @@ unfoldable pub prefix : List ℕ → List ℕ → Bool
 prefix [] xs = true
 prefix (y ∷ ys) [] = false
 prefix (y ∷ ys) (x ∷ xs) = eqb x y && prefix ys xs
+
+-- the steps of a comparison
+module _ (ys : List ℕ) (j : ℕ) (s : List ℕ) (i : ℕ) where
+  pub prefix-done : length ys ≤ j → true ≡ prefix (drop j ys) (drop i s)
+  unfolding prefix
+  prefix-done h = rw (drop-of-length-le ys h)
+
+  pub prefix-short : j < length ys → length s ≤ i → false ≡ prefix (drop j ys) (drop i s)
+  unfolding prefix
+  prefix-short h l = rw (drop-cons ys j 0, drop-of-length-le s l)
+
+  pub prefix-no : j < length ys → i < length s → (getD s i 0 ≡ getD ys j 0 → ⊥) → false ≡ prefix (drop j ys) (drop i s)
+  unfolding prefix
+  prefix-no h l e = rw (drop-cons ys j 0, drop-cons s i 0, ne-eqb (getD s i 0) (getD ys j 0) e)
+
+  pub prefix-yes : j < length ys → i < length s → getD s i 0 ≡ getD ys j 0 → prefix (drop j ys) (drop i s) ≡ prefix (drop (j + 1) ys) (drop (i + 1) s)
+  unfolding prefix
+  prefix-yes h l e = rw (add-one, add-one, drop-cons ys j 0, drop-cons s i 0, eq-eqb (getD s i 0) (getD ys j 0) e)
+
+prefix-long : (ys xs : List ℕ) → prefix ys xs ≡ true → length ys ≤ length xs
+unfolding prefix
+prefix-long [] xs e = omega arith
+prefix-long (y ∷ ys) [] e = absurd (false≢true e)
+prefix-long (y ∷ ys) (x ∷ xs) e = omega (arith, prefix-long ys xs (and-second (eqb x y) (prefix ys xs) e))
+
+pub prefix-within : (ys s : List ℕ) (i : ℕ) → prefix ys (drop i s) ≡ true → 0 < length ys → i + length ys ≤ length s
+prefix-within ys s i e h = omega (arith, prefix-long ys (drop i s) e, length-drop i s)
 
 -- w is the spelling ys and then q
 pub data Text (q : Pat) : List ℕ → Pat → Type 0 where

@@ -12,8 +12,9 @@ use borrow.Author.Tests.{leb-true, leb-false}
 use Rattle.patterns.specs.Pattern.{Pat, Matches, longest}
 use Rattle.patterns.specs.Lists.{All, all-append}
 use Rattle.patterns.specs.Longest.{Longest, Right, is-none, is-longest, longest-right}
+use Rattle.tokens.specs.declared.Hit.{Hit}
 use Rattle.tokens.specs.Tokens.{Rule}
-use Rattle.tokens.specs.Scan.{Hit, hit, best}
+use Rattle.tokens.specs.Scan.{hit, best}
 
 -- r matches no prefix of s of n bytes or more
 abbrev pub Below : List ℕ → ℕ → Rule → Type 0

@@ -10,16 +10,16 @@ use Rattle.patterns.specs.Pattern.{byte, seq, longest}
 use Rattle.patterns.specs.Agree.{Agree, agree-drop, longest-agree}
 use Rattle.tokens.specs.declared.Mode.{Mode}
 use Rattle.tokens.specs.declared.Mode.the-variants.{Normal, HexPattern, HexJump}
-use Rattle.tokens.specs.declared.Reader.{Reader}
+use Rattle.tokens.specs.declared.Hit.{Hit}
 use Rattle.tokens.specs.Unicode.{in-runs}
 use Rattle.tokens.specs.Tokens.{ascii, Rule, Spelling, spelled, Tables, operators, one-of, word-start, word-part, tail, newlines, shaped-rules, normal-rules}
-use Rattle.tokens.specs.Scan.{Hit, best, better, rules, tried, or-else, choose, found, scan-rest, scan}
+use Rattle.tokens.specs.Scan.{hit, best, better, rules, tried, or-else, choose, found, scan-rest, scan}
 
 -- the rest of a list of rules may be exchanged for one of the same hit
 best-behind : (xs rs rs′ : List Rule) (s : List ℕ) → best rs s ≡ best rs′ s → best (xs ++ rs) s ≡ best (xs ++ rs′) s
 unfolding best
 best-behind [] rs rs′ s e = e
-best-behind (x ∷ xs) rs rs′ s e = ap (better (x .kind) (longest (x .pattern) s)) (best-behind xs rs rs′ s e)
+best-behind (x ∷ xs) rs rs′ s e = ap (better (hit (x .kind) (longest (x .pattern) s))) (best-behind xs rs rs′ s e)
 
 -- two tables of digits and one list of keywords
 module _ (digits digits′ : List ℕ) (words : List Spelling) where
@@ -60,6 +60,6 @@ module _ (digits digits′ : List ℕ) (words : List Spelling) where
   rest-agree m at [] a = refl
   rest-agree m at (b ∷ s) a = ap (found at) (choose-agree (tried m) (b ∷ s) a)
 
-  pub scan-agree : (src : List ℕ) (r : Reader) → SameDigits src → scan t src r ≡ scan t′ src r
+  pub scan-agree : (src : List ℕ) (at : ℕ) (m : Mode) → SameDigits src → scan t src at m ≡ scan t′ src at m
   unfolding scan
-  scan-agree src r a = rest-agree (r .mode) (r .place .0) (drop (r .place .0) src) (agree-drop (in-runs digits) (in-runs digits′) src (r .place .0) a)
+  scan-agree src at m a = rest-agree m at (drop at src) (agree-drop (in-runs digits) (in-runs digits′) src at a)

@@ -13,7 +13,7 @@ use Rattle.tokens.specs.declared.Mode.{Mode}
 use Rattle.tokens.specs.declared.Mode.the-variants.{Normal, HexPattern, HexJump}
 use Rattle.tokens.specs.Unicode.{in-runs, digits-16, white}
 use Rattle.tokens.specs.Tokens.{ascii, tables-1, letter, dec, oct, hex, word-start, hex-or-mark, blank}
-use Rattle.tokens.specs.Scan.{best, rules, token, reader, listing, list-from}
+use Rattle.tokens.specs.Scan.{best, rules, token, listing, list-from}
 
 -- quoted texts
 escapes : ascii "a\"\\\n\r\t/" ≡ 97 ∷ 34 ∷ 92 ∷ 10 ∷ 13 ∷ 9 ∷ 47 ∷ []
@@ -98,8 +98,8 @@ unfolding one-token
 ill-formed = refl
 
 -- the smallest sources on which the Rust does otherwise (docs/DIFFERENCES.md): a quote and a blank, two bytes of a character cut off
-apart-from-rust : list-from tables-1 (0x22 ∷ 0x20 ∷ []) (reader 0 Normal) ∷ list-from tables-1 (0xE2 ∷ 0x80 ∷ []) (reader 0 Normal) ∷ []
-    ≡ listing (token 82 0 1 ∷ token 78 1 2 ∷ []) (reader 2 Normal) ∷ listing (token 81 0 1 ∷ token 81 1 2 ∷ []) (reader 2 Normal) ∷ []
+apart-from-rust : list-from tables-1 (0x22 ∷ 0x20 ∷ []) 0 Normal ∷ list-from tables-1 (0xE2 ∷ 0x80 ∷ []) 0 Normal ∷ []
+    ≡ listing (token 82 0 1 ∷ token 78 1 2 ∷ []) Normal ∷ listing (token 81 0 1 ∷ token 81 1 2 ∷ []) Normal ∷ []
 unfolding list-from
 apart-from-rust = refl
 

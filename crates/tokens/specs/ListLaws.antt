@@ -1,86 +1,68 @@
 -- The list of tokens: it is the scan's answer and then the list from there, and it tiles the source. Since each token is at least
 -- one byte long, as many turns as there are bytes are enough, and more change nothing. Assumes nothing.
 use Prim.Native.Nat.{ℕ, zero, suc, _-_, _≤_, _<_, zero-le}
-use mathlib.Core.Path.{_≡_, refl, ap, _∙_, subst}
+use mathlib.Core.Path.{_≡_, refl, ap, _∙_}
 use mathlib.Core.List.{List, [], _∷_}
 use native.Mathlib.Omega.{arith}
 use lib.ListN.{length}
-use Rattle.tokens.specs.declared.Offset.{Offset}
 use Rattle.tokens.specs.declared.Mode.{Mode}
-use Rattle.tokens.specs.declared.Reader.{Reader}
 use Rattle.tokens.specs.declared.Token.{Token}
 use Rattle.tokens.specs.declared.Scanned.{Scanned}
 use Rattle.tokens.specs.declared.Scanned.the-variants.{End, Found}
 use Rattle.tokens.specs.Tokens.{Tables}
-use Rattle.tokens.specs.Scan.{reader, scan, Listing, listing, onto, list-first, list-from, tokens}
+use Rattle.tokens.specs.Scan.{scan, Listing, listing, onto, list-first, list-from, tokens}
 use Rattle.tokens.specs.ScanLaws.{Step, scan-found, scan-end}
 
 -- the tokens lie one after the other from a to z, none of them empty
 abbrev pub Tiles : ℕ → ℕ → List Token → Type 0
 Tiles a z [] = a ≡ z
-Tiles a z (x ∷ xs) = (x .start .0 ≡ a) × (x .start .0 < x .end .0) × Tiles (x .end .0) z xs
-
--- they do so from a to the end of a source of length z, where the reader is left
-pub record Covers (a z : ℕ) (l : Listing) : Type 0 where
-  pub tiles : Tiles a z (l .tokens)
-  pub last : l .last .place .0 ≡ z
+Tiles a z (x ∷ xs) = (x .start .0 ≡ a) × (a < x .end .0) × Tiles (x .end .0) z xs
 
 module _ (t : Tables) (src : List ℕ) where
-  -- what is left of the source at a reader
-  abbrev left : Reader → ℕ
-  left r = length src - r .place .0
+  -- what is left of the source at a place
+  abbrev left : ℕ → ℕ
+  left at = length src - at
 
   -- a token leaves less
-  less : (r : Reader) (x : Token) (r′ : Reader) → scan t src r ≡ Found x r′ → left r′ < left r
-  less r x r′ e =
-      let s : Step src r x r′ = scan-found t src r x r′ e in
-      let a : x .start .0 ≡ r .place .0 = ap (λ (o : Offset). o .0) (s .starts) in
-      let b : r′ .place .0 ≡ x .end .0 = ap (λ (o : Offset). o .0) (s .moved) in
-      omega (arith, s .longer, s .within)
+  less : (at : ℕ) (m : Mode) (x : Token) (m′ : Mode) → scan t src at m ≡ Found x m′ → left (x .end .0) < left at
+  less at m x m′ e = let s : Step src at x = scan-found t src at m x m′ e in omega (arith, s .longer, s .within)
 
   -- any two numbers of turns that are enough give the same list
-  enough : (n k : ℕ) (r : Reader) → left r ≤ n → left r ≤ k → list-first n t src r ≡ list-first k t src r
+  enough : (n k at : ℕ) (m : Mode) → left at ≤ n → left at ≤ k → list-first n t src at m ≡ list-first k t src at m
   unfolding list-first
-  enough zero zero r h g = refl
-  enough zero (suc k) r h g = rw (scan-end t src r .1 (omega arith))
-  enough (suc n) zero r h g = rw (scan-end t src r .1 (omega arith))
-  enough (suc n) (suc k) r h g = go (scan t src r) refl (λ r′ l. enough n k r′ (omega arith) (omega arith))
+  enough zero zero at m h g = refl
+  enough zero (suc k) at m h g = rw (scan-end t src at m .1 (omega arith))
+  enough (suc n) zero at m h g = rw (scan-end t src at m .1 (omega arith))
+  enough (suc n) (suc k) at m h g = go (scan t src at m) refl (λ e m′ l. enough n k e m′ (omega arith) (omega arith))
     where
-      go : (y : Scanned) → scan t src r ≡ y → ((r′ : Reader) → left r′ < left r → list-first n t src r′ ≡ list-first k t src r′)
-          → onto y r (λ r′. list-first n t src r′) ≡ onto y r (λ r′. list-first k t src r′)
+      go : (y : Scanned) → scan t src at m ≡ y → ((e : ℕ) (m′ : Mode) → left e < left at → list-first n t src e m′ ≡ list-first k t src e m′)
+          → onto y m (λ e m′. list-first n t src e m′) ≡ onto y m (λ e m′. list-first k t src e m′)
       go End e f = refl
-      go (Found x r′) e f = rw (f r′ (less r x r′ e))
+      go (Found x m′) e f = rw (f (x .end .0) m′ (less at m x m′ e))
 
-  -- the list is the scan's answer, and then the list from the reader that goes on
-  pub list-step : (r : Reader) → list-from t src r ≡ onto (scan t src r) r (λ r′. list-from t src r′)
+  -- the list is the scan's answer, and then the list from the token's end
+  pub list-step : (at : ℕ) (m : Mode) → list-from t src at m ≡ onto (scan t src at m) m (λ e m′. list-from t src e m′)
   unfolding list-from list-first
-  list-step r = enough (length src) (suc (length src)) r (omega arith) (omega arith)
+  list-step at m = enough (length src) (suc (length src)) at m (omega arith) (omega arith)
 
-  -- at the end there is none, and the reader stays as it was, its mode too
-  pub list-end : (r : Reader) → length src ≤ r .place .0 → list-from t src r ≡ listing [] r
-  list-end r h = list-step r ∙ ap (λ (y : Scanned). onto y r (λ r′. list-from t src r′)) (scan-end t src r .1 h)
+  -- at the end there is none, and the mode stays
+  pub list-end : (at : ℕ) (m : Mode) → length src ≤ at → list-from t src at m ≡ listing [] m
+  list-end at m h = list-step at m ∙ ap (λ (y : Scanned). onto y m (λ e m′. list-from t src e m′)) (scan-end t src at m .1 h)
 
-  first-covers : (n : ℕ) (r : Reader) → r .place .0 ≤ length src → left r ≤ n → Covers (r .place .0) (length src) (list-first n t src r)
+  first-tile : (n at : ℕ) (m : Mode) → at ≤ length src → left at ≤ n → Tiles at (length src) ((list-first n t src at m) .tokens)
   unfolding list-first
-  first-covers zero r h g = record { tiles = omega arith; last = omega arith }
-  first-covers (suc n) r h g = go (scan t src r) refl (λ r′ l k. first-covers n r′ l (omega arith))
+  first-tile zero at m h g = omega arith
+  first-tile (suc n) at m h g = go (scan t src at m) refl (λ e m′ l k. first-tile n e m′ l (omega arith))
     where
-      go : (y : Scanned) → scan t src r ≡ y → ((r′ : Reader) → r′ .place .0 ≤ length src → left r′ < left r → Covers (r′ .place .0) (length src) (list-first n t src r′))
-          → Covers (r .place .0) (length src) (onto y r (λ r′. list-first n t src r′))
-      go End e f = let k : length src ≤ r .place .0 = scan-end t src r .0 e in record { tiles = omega arith; last = omega arith }
-      go (Found x r′) e f =
-          let s : Step src r x r′ = scan-found t src r x r′ e in
-          let b : r′ .place .0 ≡ x .end .0 = ap (λ (o : Offset). o .0) (s .moved) in
-          let k : Covers (r′ .place .0) (length src) (list-first n t src r′) = f r′ (omega (arith, s .within)) (less r x r′ e) in
-          record {
-            tiles = (ap (λ (o : Offset). o .0) (s .starts), s .longer, subst (λ (a : ℕ). Tiles a (length src) ((list-first n t src r′) .tokens)) b (k .tiles));
-            last = k .last;
-          }
+      go : (y : Scanned) → scan t src at m ≡ y → ((e : ℕ) (m′ : Mode) → e ≤ length src → left e < left at → Tiles e (length src) ((list-first n t src e m′) .tokens))
+          → Tiles at (length src) ((onto y m (λ e m′. list-first n t src e m′)) .tokens)
+      go End e f = let k : length src ≤ at = scan-end t src at m .0 e in omega arith
+      go (Found x m′) e f = let s : Step src at x = scan-found t src at m x m′ e in (s .starts, s .longer, f (x .end .0) m′ (s .within) (less at m x m′ e))
 
-  -- so does the list of all tokens, from any place of the source
-  pub list-covers : (r : Reader) → r .place .0 ≤ length src → Covers (r .place .0) (length src) (list-from t src r)
+  -- the tokens from any place of the source tile what is left of it
+  pub list-tiles : (at : ℕ) (m : Mode) → at ≤ length src → Tiles at (length src) ((list-from t src at m) .tokens)
   unfolding list-from
-  list-covers r h = first-covers (length src) r h (omega arith)
+  list-tiles at m h = first-tile (length src) at m h (omega arith)
 
   pub tokens-tile : (m : Mode) → Tiles 0 (length src) (tokens t m src)
-  tokens-tile m = list-covers (reader 0 m) zero-le .tiles
+  tokens-tile m = list-tiles 0 m zero-le

@@ -3,12 +3,11 @@
 use Prim.Native.Nat.{ℕ}
 use mathlib.Core.Path.{_≡_, refl}
 use mathlib.Core.List.{List, [], _∷_, map}
-use lib.ListN.{length}
 use Rattle.tokens.specs.declared.Mode.{Mode}
 use Rattle.tokens.specs.declared.Mode.the-variants.{Normal, HexPattern, HexJump}
 use Rattle.tokens.specs.declared.Token.{Token}
 use Rattle.tokens.specs.Tokens.{ascii, tables-1}
-use Rattle.tokens.specs.Scan.{token, reader, listing, list-from}
+use Rattle.tokens.specs.Scan.{token, listing, list-from}
 
 -- a source, the mode that it is opened in, its tokens, and the mode at its end
 pub record Case : Type 0 where
@@ -41,7 +40,6 @@ marked-cases =
     ∷ case HexJump (ascii "4]") (token 74 0 1 ∷ token 67 1 2 ∷ []) HexPattern
     ∷ []
 
-pub marked-right : map (λ (c : Case). list-from tables-1 (c .source) (reader 0 (c .mode))) marked-cases
-    ≡ map (λ (c : Case). listing (c .tokens) (reader (length (c .source)) (c .reached))) marked-cases
+pub marked-right : map (λ (c : Case). list-from tables-1 (c .source) 0 (c .mode)) marked-cases ≡ map (λ (c : Case). listing (c .tokens) (c .reached)) marked-cases
 unfolding marked-cases list-from
 marked-right = refl

@@ -5,11 +5,14 @@ use mathlib.Core.Bool.{cond, not, _&&_}
 use mathlib.Core.List.{List, [], _∷_}
 use lib.ListN.{length, drop}
 use lib.Dec.{leb}
-use Rattle.patterns.specs.Utf8.{Front, whole, broken, decode}
+use Rattle.patterns.specs.declared.Front.{Front}
+use Rattle.patterns.specs.declared.Front.the-variants.{Whole, Broken}
+use Rattle.patterns.specs.Utf8.{decode}
 use Rattle.patterns.specs.Pattern.{Pat, char, star, walk, longest}
 use Rattle.tokens.specs.declared.Mode.{Mode}
 use Rattle.tokens.specs.declared.Mode.the-variants.{Normal, HexPattern, HexJump}
-use Rattle.tokens.specs.declared.Reader.{Reader}
+use Rattle.tokens.specs.declared.Hit.{Hit}
+use Rattle.tokens.specs.declared.Choice.{Choice}
 use Rattle.tokens.specs.declared.Token.{Token}
 use Rattle.tokens.specs.declared.Scanned.{Scanned}
 use Rattle.tokens.specs.declared.Scanned.the-variants.{End, Found}
@@ -18,20 +21,17 @@ use Rattle.tokens.specs.Unicode.{white}
 use Rattle.tokens.specs.Tokens.{Rule, Tables, normal-rules, pattern-rules, jump-rules}
 
 -- The longest match of a list of rules, the first of them where several are as long: a kind and a length, both 0 where none matches.
-pub record Hit : Type 0 where
-  pub kind : ℕ
-  pub len : ℕ
-
 abbrev pub hit : ℕ → ℕ → Hit
 hit k n = record { kind = k; len = n }
 
-abbrev pub better : ℕ → ℕ → Hit → Hit
-better k n other = cond (leb 1 n && leb (other .len) n) (hit k n) other
+-- the first of two hits, unless the other is longer
+abbrev pub better : Hit → Hit → Hit
+better h other = cond (leb 1 (h .len) && leb (other .len) (h .len)) h other
 
 unfoldable pub best : List Rule → List ℕ → Hit
 unfolding walk
 best [] s = hit 0 0
-best (r ∷ rs) s = better (r .kind) (longest (r .pattern) s) (best rs s)
+best (r ∷ rs) s = better (hit (r .kind) (longest (r .pattern) s)) (best rs s)
 
 -- The modes: the rules of each, and which are tried, one after the other, until one finds something.
 unfoldable pub rules : Tables → Mode → List Rule
@@ -46,11 +46,6 @@ tried HexPattern = HexPattern ∷ Normal ∷ []
 tried HexJump = HexJump ∷ HexPattern ∷ Normal ∷ []
 
 -- What is taken at the front of a rest that is not empty: a kind, a length, and the mode reached.
-pub record Choice : Type 0 where
-  pub kind : ℕ
-  pub len : ℕ
-  pub mode : Mode
-
 abbrev pub chosen : ℕ → ℕ → Mode → Choice
 chosen k n m = record { kind = k; len = n; mode = m }
 
@@ -60,8 +55,8 @@ plain = star (char (λ v. not (white v)))
 
 unfoldable pub unmatched : Front → List ℕ → Choice
 unfolding white walk
-unmatched broken s = chosen INVALID-UTF8 1 Normal
-unmatched (whole v n) s = chosen UNKNOWN (max 1 (longest plain s)) Normal
+unmatched Broken s = chosen INVALID-UTF8 1 Normal
+unmatched (Whole v n) s = chosen UNKNOWN (max 1 (longest plain s)) Normal
 
 -- a hit in the mode m, or else what the next mode takes
 abbrev pub or-else : Mode → ℕ → ℕ → Choice → Choice
@@ -77,47 +72,45 @@ choose t (m ∷ ms) s = let h = best (rules t m) s in let next = choose t ms s i
 abbrev pub token : ℕ → ℕ → ℕ → Token
 token k a e = record { kind = k; start = record { 0 = a }; end = record { 0 = e } }
 
-abbrev pub reader : ℕ → Mode → Reader
-reader at m = record { place = record { 0 = at }; mode = m }
-
 abbrev pub found : ℕ → Choice → Scanned
-found at c = Found (token (c .kind) at (at + c .len)) (reader (at + c .len) (c .mode))
+found at c = Found (token (c .kind) at (at + c .len)) (c .mode)
 
 unfoldable pub scan-rest : Tables → Mode → ℕ → List ℕ → Scanned
 unfolding choose
 scan-rest t m at [] = End
 scan-rest t m at (b ∷ bs) = found at (choose t (tried m) (b ∷ bs))
 
-unfoldable pub scan : Tables → List ℕ → Reader → Scanned
+-- at the place `at` of a source, in the mode m
+unfoldable pub scan : Tables → List ℕ → ℕ → Mode → Scanned
 unfolding scan-rest
-scan t src r = scan-rest t (r .mode) (r .place .0) (drop (r .place .0) src)
+scan t src at m = scan-rest t m at (drop at src)
 
--- All tokens from a reader on, and the reader that is left at the end.
+-- All tokens from a place and a mode on, and the mode reached at the end.
 pub record Listing : Type 0 where
   pub tokens : List Token
-  pub last : Reader
+  pub mode : Mode
 
-abbrev pub listing : List Token → Reader → Listing
-listing ts r = record { tokens = ts; last = r }
+abbrev pub listing : List Token → Mode → Listing
+listing ts m = record { tokens = ts; mode = m }
 
-abbrev pub onto : Scanned → Reader → (Reader → Listing) → Listing
-onto End r rest = listing [] r
-onto (Found x r′) r rest = let l = rest r′ in listing (x ∷ l .tokens) (l .last)
+abbrev pub onto : Scanned → Mode → (ℕ → Mode → Listing) → Listing
+onto End m rest = listing [] m
+onto (Found x m′) m rest = let l = rest (x .end .0) m′ in listing (x ∷ l .tokens) (l .mode)
 
 -- the first n of them
-unfoldable pub list-first : ℕ → Tables → List ℕ → Reader → Listing
+unfoldable pub list-first : ℕ → Tables → List ℕ → ℕ → Mode → Listing
 unfolding scan
-list-first zero t src r = listing [] r
-list-first (suc n) t src r = onto (scan t src r) r (λ r′. list-first n t src r′)
+list-first zero t src at m = listing [] m
+list-first (suc n) t src at m = onto (scan t src at m) m (λ e m′. list-first n t src e m′)
 
 -- no source has more tokens than bytes
-unfoldable pub list-from : Tables → List ℕ → Reader → Listing
+unfoldable pub list-from : Tables → List ℕ → ℕ → Mode → Listing
 unfolding list-first
-list-from t src r = list-first (length src) t src r
+list-from t src at m = list-first (length src) t src at m
 
 -- the tokens of a source, and how many they are
 abbrev pub tokens : Tables → Mode → List ℕ → List Token
-tokens t m src = (list-from t src (reader 0 m)) .tokens
+tokens t m src = (list-from t src 0 m) .tokens
 
 abbrev pub total : Tables → Mode → List ℕ → ℕ
 total t m src = length (tokens t m src)

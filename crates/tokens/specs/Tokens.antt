@@ -205,16 +205,28 @@ unfolding words-1 digits-16 shaped-rules
 normal-rules t = map spelled (t .words) ++ (map spelled operators ++ (shaped-rules (t .digits) ++ map spelled newlines))
 
 -- `HexPatternToken`
+
+-- ~?[?0-9a-fA-F]{2}
+abbrev pub hex-byte : Pat
+hex-byte = row (optional (is "~") ∷ byte hex-or-mark ∷ byte hex-or-mark ∷ [])
+
+abbrev pub pattern-operators : List Spelling
+pattern-operators = spell 59 "|" ∷ spell 64 "(" ∷ spell 65 ")" ∷ spell 66 "[" ∷ spell 67 "]" ∷ []
+
 unfoldable pub pattern-rules : List Rule
 pattern-rules =
-    rule HEX-BYTE (row (optional (is "~") ∷ byte hex-or-mark ∷ byte hex-or-mark ∷ []))
-    ∷ map spelled (spell 59 "|" ∷ spell 64 "(" ∷ spell 65 ")" ∷ spell 66 "[" ∷ spell 67 "]" ∷ [])
+    rule HEX-BYTE hex-byte
+    ∷ map spelled pattern-operators
     ++ (rule WHITESPACE blanks ∷ map spelled newlines ++ (rule COMMENT (block-comment char) ∷ rule COMMENT line-comment ∷ []))
 
--- `HexJumpToken`; its integers: 0x[a-fA-F0-9]+ | 0o[0-7]+ | [0-9]+
+-- `HexJumpToken`
+
+-- 0x[a-fA-F0-9]+ | 0o[0-7]+ | [0-9]+
+abbrev pub jump-integer : Pat
+jump-integer = alt (row (text "0x" ∷ plus (byte hex) ∷ [])) (alt (row (text "0o" ∷ plus (byte oct) ∷ [])) (plus (byte dec)))
+
+abbrev pub jump-operators : List Spelling
+jump-operators = spell 57 "-" ∷ []
+
 unfoldable pub jump-rules : List Rule
-jump-rules =
-    spelled (spell 57 "-")
-    ∷ rule INTEGER-LIT (alt (row (text "0x" ∷ plus (byte hex) ∷ [])) (alt (row (text "0o" ∷ plus (byte oct) ∷ [])) (plus (byte dec))))
-    ∷ rule WHITESPACE blanks
-    ∷ map spelled newlines
+jump-rules = map spelled jump-operators ++ (rule INTEGER-LIT jump-integer ∷ rule WHITESPACE blanks ∷ map spelled newlines)
