@@ -4,7 +4,7 @@ use Prim.Native.Nat.{ℕ, zero, suc, _+_, _≤_, _<_}
 use mathlib.Core.Path.{_≡_, refl, sym, ap, _∙_}
 use mathlib.Core.Bool.{Bool, true, false, cond, _&&_, false≢true}
 use mathlib.Core.List.{List, [], _∷_}
-use native.Mathlib.Nat.{add-zero, add-suc, suc-add}
+use native.Mathlib.Nat.{zero-add, add-zero, add-suc, suc-add}
 use native.Mathlib.Numerals.{add-one}
 use native.Mathlib.Omega.{arith}
 use native.Mathlib.Decide.{decLt}
@@ -37,7 +37,7 @@ walk-from r (x ∷ s) at k b = go (nullable r) ∙ walk-from (deriv x r) s at (s
     go false = rw add-suc
 
 -- nothing is left
-dead : (s : List ℕ) (k b : ℕ) → walk nothing s k b ≡ b
+pub dead : (s : List ℕ) (k b : ℕ) → walk nothing s k b ≡ b
 unfolding walk
 dead [] k b = refl
 dead (x ∷ s) k b = dead s (suc k) b
@@ -275,7 +275,7 @@ module _ (ys : List ℕ) (j : ℕ) (s : List ℕ) (i : ℕ) where
   unfolding prefix
   prefix-yes h l e = rw (add-one, add-one, drop-cons ys j 0, drop-cons s i 0, eq-eqb (getD s i 0) (getD ys j 0) e)
 
-prefix-long : (ys xs : List ℕ) → prefix ys xs ≡ true → length ys ≤ length xs
+pub prefix-long : (ys xs : List ℕ) → prefix ys xs ≡ true → length ys ≤ length xs
 unfolding prefix
 prefix-long [] xs e = omega arith
 prefix-long (y ∷ ys) [] e = absurd (false≢true e)
@@ -315,6 +315,10 @@ walk-text {q} (next {y} {ys} {w} {w′} n d t) (x ∷ xs) k b = rw (n, d x) (go 
         → walk (follow (if-in u) w′) xs (suc k) b ≡ cond (u && prefix ys xs) (walk q (drop (length ys) xs) (k + suc (length ys)) b) b
     go true e = e ∙ rw (suc-add, ← add-suc)
     go false e = dead xs (suc k) b
+
+-- a spelling alone matches itself
+pub literal-longest : (ys xs : List ℕ) → longest (literal ys) xs ≡ cond (prefix ys xs) (length ys) 0
+literal-longest ys xs = walk-text (text-alone ys) xs 0 0 ∙ ap (λ (n : ℕ). cond (prefix ys xs) n 0) (spent (drop (length ys) xs) (0 + length ys) 0 ∙ zero-add (length ys))
 
 module _ {p : Pat} {s : List ℕ} {at : ℕ} {q w : Pat} {ys : List ℕ} {i b : ℕ} (t : Text q ys w) (c : Came p s at w i b) where
   pub text-yes : prefix ys (drop i s) ≡ true → Came p s at q (i + length ys) b

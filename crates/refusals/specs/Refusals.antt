@@ -1,0 +1,10 @@
+-- Document 01's numbers of the refusals; 15, for room that is lent and too small, as document 02 has it.
+-- Assumes nothing.
+use Prim.Native.Nat.{ℕ}
+use Rattle.refusals.specs.declared.Refusal.{Refusal}
+use Rattle.refusals.specs.declared.Refusal.the-variants.{SourceTooLong, NoRoom, NotAsOpened}
+
+abbrev pub number-of : Refusal → ℕ
+number-of SourceTooLong = 1
+number-of NoRoom = 15
+number-of NotAsOpened = 24

@@ -1,0 +1,43 @@
+-- The reader's calls: opening, scanning, and the switches of mode, with document 01's refusals.
+-- Assumes nothing.
+use Prim.Native.Nat.{ℕ}
+use mathlib.Core.Bool.{Bool, cond, _&&_}
+use mathlib.Core.List.{List}
+use lib.ListN.{length}
+use lib.Dec.{leb}
+use Rattle.refusals.specs.declared.Refusal.the-variants.{SourceTooLong, NotAsOpened}
+use Rattle.tokens.specs.declared.Mode.{Mode}
+use Rattle.tokens.specs.declared.Mode.the-variants.{Normal}
+use Rattle.tokens.specs.declared.Scanned.{Scanned}
+use Rattle.tokens.specs.declared.Scanned.the-variants as scanned
+use Rattle.tokens.specs.Tokens.{tables-1}
+use Rattle.tokens.specs.Scan.{scan}
+use Rattle.scanner.specs.declared.Reader.{Reader}
+use Rattle.scanner.specs.declared.Opened.{Opened}
+use Rattle.scanner.specs.declared.Opened.the-variants as opened
+use Rattle.scanner.specs.declared.Scan.{Scan}
+use Rattle.scanner.specs.declared.Scan.the-variants as answer
+
+-- the most bytes that a source may have
+abbrev pub source-limit : ℕ
+source-limit = 65535
+
+-- Opening: at the start, in normal mode.
+abbrev pub open-of : List ℕ → Opened
+open-of src = cond (leb (length src) source-limit) (opened.Ready (record { place = record { 0 = 0 }; mode = Normal })) (opened.Refused SourceTooLong)
+
+-- A later call: the source is within the limit, and the place within the source.
+abbrev pub sound : List ℕ → Reader → Bool
+sound src r = leb (length src) source-limit && leb (r .place .0) (length src)
+
+-- a token, and the reader moved to its end
+abbrev pub moved : Scanned → Scan
+moved scanned.End = answer.End
+moved (scanned.Found x m) = answer.Found x (record { place = x .end; mode = m })
+
+abbrev pub scan-of : List ℕ → Reader → Scan
+scan-of src r = cond (sound src r) (moved (scan tables-1 src (r .place .0) (r .mode))) (answer.Refused NotAsOpened)
+
+-- A switch acts at the place where the reader is.
+abbrev pub entered : Mode → Reader → Reader
+entered m r = record { place = r .place; mode = m }

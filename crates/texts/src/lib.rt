@@ -1,0 +1,215 @@
+// Strings, regexps and comments: where the one at a place ends.
+use patterns::Front;
+ghost use Prim.Native.Nat.{_+_, _<_};
+ghost use mathlib.Core.Path.{_≡_};
+ghost use mathlib.Core.List.{[], _∷_};
+ghost use lib.ListN.{length, getD, drop};
+ghost use Rattle.patterns.specs.Utf8.{between};
+ghost use Rattle.patterns.specs.Pattern.{byte, char, longest};
+ghost use Rattle.patterns.specs.Walk.{prefix};
+ghost use Rattle.tokens.specs.Tokens.{letter, string, multi-line-string, regexp, block-comment, line-comment};
+ghost use Rattle.texts.specs.Places.{stands};
+ghost use Rattle.texts.specs.Items.{items, pair-at};
+ghost use Rattle.texts.specs.Quoted.{plain, quoted};
+ghost use Rattle.texts.specs.Regexps.{modifiers};
+ghost use Rattle.texts.specs.Comments.{unit};
+
+// Whether `text` stands at `at`.
+fn has(src: &[u8], at: usize, text: &[u8]) -> bool
+    ensures { λ r. ⌜ r ≡ prefix (now (text .entry)) (drop at (now (src .entry))) ⌝ }
+{
+    let mut n = 0;
+    while n < text.len() {
+        let i = at + n;
+        if src.len() <= i || src[i] != text[n] {
+            return false;
+        }
+        n += 1;
+    }
+    true
+}
+
+// Whether the byte `b` stands at `at`.
+fn has_byte(src: &[u8], at: usize, b: u8) -> bool
+    ensures { λ r. ⌜ r ≡ prefix (b ∷ []) (drop at (now (src .entry))) ⌝ }
+{
+    at < src.len() && src[at] == b
+}
+
+// Whether `b` is an item by itself: no backslash, not the byte that closes the text, and LF only in a text that may have lines.
+fn plain(b: u8, close: u8, lines: bool) -> bool
+    ensures { λ r. ⌜ r ≡ plain close lines b ⌝ }
+{
+    if b == close || b == b'\\' {
+        return false;
+    }
+    lines || b != b'\n'
+}
+
+// Whether a backslash stands at `at`, and behind it a byte that is not LF.
+fn pair(src: &[u8], at: usize) -> bool
+    requires { ⌜ at < length (now src) ⌝ }
+    ensures { λ r. ⌜ r ≡ pair-at (now (src .entry)) at ⌝ }
+{
+    if src[at] == b'\\' {
+        let next = at + 1;
+        return next < src.len() && src[next] != b'\n';
+    }
+    false
+}
+
+// The end of the row of items at `at`: plain bytes, and pairs.
+fn items(src: &[u8], at: usize, close: u8, lines: bool) -> usize
+    ensures { λ r. ⌜ r ≡ at + longest (items (plain close lines)) (drop at (now (src .entry))) ⌝ }
+{
+    let mut i = at;
+    while i < src.len() {
+        if plain(src[i], close, lines) {
+            i += 1;
+        } else if pair(src, i) {
+            i += 2;
+        } else {
+            return i;
+        }
+    }
+    i
+}
+
+// The end of the text at `at` between `quotes`, or `at` where there is none.
+fn quoted(src: &[u8], at: usize, quotes: &[u8], lines: bool) -> usize
+    requires { ⌜ getD (now quotes) 0 0 ≡ 34 ⌝ }
+    ensures { λ r. ⌜ r ≡ at + longest (quoted (now (quotes .entry)) lines) (drop at (now (src .entry))) ⌝ }
+{
+    if !has(src, at, quotes) {
+        return at;
+    }
+    let end = items(src, at + quotes.len(), b'"', lines);
+    if !has(src, end, quotes) {
+        return at;
+    }
+    end + quotes.len()
+}
+
+// The end of the string at `at`, or `at` where there is none.
+pub fn string(src: &[u8], at: usize) -> usize
+    ensures { λ r. ⌜ r ≡ at + longest string (drop at (now (src .entry))) ⌝ }
+{
+    quoted(src, at, b"\"", false)
+}
+
+// The end of the multi-line string at `at`, or `at` where there is none.
+pub fn multi_line_string(src: &[u8], at: usize) -> usize
+    ensures { λ r. ⌜ r ≡ at + longest multi-line-string (drop at (now (src .entry))) ⌝ }
+{
+    quoted(src, at, b"\"\"\"", true)
+}
+
+// Whether `b` is in low..=high.
+fn within(b: u8, low: u8, high: u8) -> bool
+    ensures { λ r. ⌜ r ≡ between low high b ⌝ }
+{
+    low <= b && b <= high
+}
+
+// Whether a letter stands at `at`.
+fn letter_at(src: &[u8], at: usize) -> bool
+    ensures { λ r. ⌜ r ≡ stands letter (now (src .entry)) at ⌝ }
+{
+    if src.len() <= at {
+        return false;
+    }
+    let b = src[at];
+    within(b, b'A', b'Z') || within(b, b'a', b'z')
+}
+
+// The end of the modifiers at `at`: at most two letters.
+fn modifiers(src: &[u8], at: usize) -> usize
+    ensures { λ r. ⌜ r ≡ at + longest modifiers (drop at (now (src .entry))) ⌝ }
+{
+    if !letter_at(src, at) {
+        return at;
+    }
+    let second = at + 1;
+    if !letter_at(src, second) {
+        return second;
+    }
+    second + 1
+}
+
+// The end of the regexp at `at`, or `at` where there is none.
+pub fn regexp(src: &[u8], at: usize) -> usize
+    ensures { λ r. ⌜ r ≡ at + longest regexp (drop at (now (src .entry))) ⌝ }
+{
+    if !has_byte(src, at, b'/') {
+        return at;
+    }
+    let first = at + 1;
+    if has_byte(src, first, b'*') || has_byte(src, first, b'/') {
+        return at;
+    }
+    let end = items(src, first, b'/', false);
+    if !has_byte(src, end, b'/') {
+        return at;
+    }
+    modifiers(src, end + 1)
+}
+
+// The end of the line comment at `at`, or `at` where there is none.
+pub fn line_comment(src: &[u8], at: usize) -> usize
+    ensures { λ r. ⌜ r ≡ at + longest line-comment (drop at (now (src .entry))) ⌝ }
+{
+    if !has(src, at, b"//") {
+        return at;
+    }
+    let mut i = at + 2;
+    while i < src.len() && src[i] != b'\n' {
+        i += 1;
+    }
+    i
+}
+
+// The end of the block comment at `at`, or `at` where there is none. With `chars` it holds well-formed characters only, and else any bytes.
+fn block(src: &[u8], at: usize, chars: bool) -> usize
+    ensures { λ r. ⌜ r ≡ at + longest (block-comment (unit chars)) (drop at (now (src .entry))) ⌝ }
+{
+    if !has(src, at, b"/*") {
+        return at;
+    }
+    let mut i = at + 2;
+    let mut star = false;
+    while i < src.len() {
+        let b = src[i];
+        if chars && 0x80 <= b {
+            match utf8::decode_at(src, i) {
+                Front::Whole(_, n) => {
+                    i += n;
+                    star = false;
+                }
+                Front::Broken => {
+                    return at;
+                }
+            }
+        } else {
+            i += 1;
+            if star && b == b'/' {
+                return i;
+            }
+            star = b == b'*';
+        }
+    }
+    at
+}
+
+// The end of the block comment at `at`, or `at` where there is none.
+pub fn block_comment(src: &[u8], at: usize) -> usize
+    ensures { λ r. ⌜ r ≡ at + longest (block-comment byte) (drop at (now (src .entry))) ⌝ }
+{
+    block(src, at, false)
+}
+
+// The end of the block comment of well-formed characters at `at`, or `at` where there is none.
+pub fn block_comment_of_chars(src: &[u8], at: usize) -> usize
+    ensures { λ r. ⌜ r ≡ at + longest (block-comment char) (drop at (now (src .entry))) ⌝ }
+{
+    block(src, at, true)
+}

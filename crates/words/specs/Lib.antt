@@ -1,0 +1,3 @@
+-- What the contracts and proofs of words cite.
+pub mod Tail
+pub mod Digits
