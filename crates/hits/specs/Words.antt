@@ -15,13 +15,12 @@ use Rattle.patterns.specs.Bools.{and-first, and-second}
 use Rattle.patterns.specs.Lists.{All, each, each-right}
 use Rattle.patterns.specs.Walk.{start, move, onto, prefix, prefix-long, literal-longest}
 use Rattle.patterns.specs.Longest.{Right, is-none, is-longest, longest-right, longest-le}
-use Rattle.tokens.specs.declared.Hit.{Hit}
 use Rattle.tokens.specs.Kinds.{IDENT}
 use Rattle.tokens.specs.Unicode.{digits-16}
 use Rattle.tokens.specs.Tokens.{Rule, Spelling, rule, spelled, words-1, word-start, tail, identifier}
 use Rattle.tokens.specs.Scan.{hit, better, best}
 use Rattle.keywords.specs.Keywords.{same, keyword-of}
-use Rattle.hits.specs.Better.{better-first, better-none, better-longer}
+use Rattle.hits.specs.Better.{better-first, better-longer}
 
 -- A byte of a class, and then a tail.
 

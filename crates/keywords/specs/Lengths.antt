@@ -6,11 +6,12 @@ use mathlib.Core.Bool.{Bool, true, false, cond, _&&_, true≢false}
 use mathlib.Core.List.{List, [], _∷_}
 use lib.ListN.{length}
 use lib.Dec.{eqb}
-use borrow.Author.Tests.{eqb-false, ne-eqb}
+use borrow.Author.Tests.{eqb-false}
 use Rattle.patterns.specs.Bools.{and-first, and-second}
 use Rattle.patterns.specs.Lists.{each}
 use Rattle.tokens.specs.Kinds.{IDENT}
 use Rattle.tokens.specs.Tokens.{Spelling, words-1, one-of}
+use Rattle.tokens.specs.NoneOf.{NoneOf, not-one}
 use Rattle.keywords.specs.Keywords.{same, keyword-of}
 
 -- the spellings of n bytes
@@ -47,15 +48,6 @@ at-length w n q e = q ∙ ap (λ (n : ℕ). keyword-of (as-long n words-1) w) (s
 abbrev lengths : List ℕ
 lengths = 11 ∷ 10 ∷ 9 ∷ 8 ∷ 7 ∷ 6 ∷ 5 ∷ 4 ∷ 3 ∷ 2 ∷ []
 
--- a number that is none of a list
-abbrev Not : List ℕ → ℕ → Type 0
-Not [] n = Unit {0}
-Not (m ∷ ms) n = Not ms n × (n ≡ m → ⊥)
-
-outside : (ms : List ℕ) (n : ℕ) → Not ms n → one-of ms n ≡ false
-outside [] n h = refl
-outside (m ∷ ms) n h = rw (ne-eqb n m (h .1)) (outside ms n (h .0))
-
 all-lengths : each (λ (x : Spelling). one-of lengths (length (x .bytes))) words-1 ≡ true
 unfolding words-1
 all-lengths = refl
@@ -68,5 +60,5 @@ other-length (x ∷ xs) w e h =
     rw (← same-differs w (x .bytes) (λ q. true≢false (sym (and-first (f x) (each f xs) e) ∙ ap (one-of lengths) (sym q) ∙ h))) (other-length xs w (and-second (f x) (each f xs) e) h)
 
 -- a word of any other length is none
-pub no-keyword : (w : List ℕ) → Not lengths (length w) → IDENT ≡ keyword-of words-1 w
-no-keyword w h = other-length words-1 w all-lengths (outside lengths (length w) h)
+pub no-keyword : (w : List ℕ) → NoneOf lengths (length w) → IDENT ≡ keyword-of words-1 w
+no-keyword w h = other-length words-1 w all-lengths (not-one lengths (length w) h)

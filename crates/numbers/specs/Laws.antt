@@ -12,12 +12,12 @@ use borrow.Author.Tests.{ne-eqb, eqb-true}
 use Rattle.patterns.specs.Utf8.{Class}
 use Rattle.patterns.specs.Pattern.{Pat, nothing, byte, seq, alt, star, plus, is-nothing, nullable, deriv, walk, longest}
 use Rattle.patterns.specs.Bools.{by-test}
-use Rattle.patterns.specs.Walk.{Came, start, done, both, span}
+use Rattle.patterns.specs.Walk.{Came, start, halt, swap, done, both, span}
 use Rattle.tokens.specs.Tokens.{ascii, one-of, dec, or-underscore, float}
 use Rattle.numbers.specs.declared.Base.{Base}
 use Rattle.numbers.specs.declared.Base.the-variants.{Octal, Decimal, Hex}
 use Rattle.numbers.specs.Parts.{digit, run, digits, base-by, base-at, suffix, fraction, integer-tail, jump-tail, any-base}
-use Rattle.numbers.specs.Onward.{inside, halt, accept, exchange, present, absent, plus-end, plus-none}
+use Rattle.numbers.specs.Onward.{inside, accept, present, absent, plus-end, plus-none}
 
 -- What tests come to that are taken one after the other.
 
@@ -207,8 +207,8 @@ module _ (u : Bool) {t : Pat} (tail : Tail t) where
     pub plain : Decimal ≡ base-at s at → at + longest (seq (byte dec) t) (drop at s) ≡ at + longest (any-base u t) (drop at s)
     plain e =
         by-test (eqb (getD s at 0) 48) (λ z. behind z (rw (sym e) at (announced s at) z))
-        (λ z. both (start (seq (byte dec) t) s at) (exchange (start (any-base u t) s at) (seq (byte dec) t) refl (λ l. no-zero (getD s at 0) z)))
+        (λ z. both (start (seq (byte dec) t) s at) (swap (start (any-base u t) s at) (seq (byte dec) t) refl (λ l. no-zero (getD s at 0) z)))
       where
         behind : eqb (getD s at 0) 48 ≡ true → (eqb (getD s (at + 1) 0) 120 ≡ false) × (eqb (getD s (at + 1) 0) 111 ≡ false)
             → at + longest (seq (byte dec) t) (drop at s) ≡ at + longest (any-base u t) (drop at s)
-        behind z a = both (digit-at t z) (exchange (zero-at z) t refl (λ l. no-letter (getD s (at + 1) 0) (a .0) (a .1)))
+        behind z a = both (digit-at t z) (swap (zero-at z) t refl (λ l. no-letter (getD s (at + 1) 0) (a .0) (a .1)))

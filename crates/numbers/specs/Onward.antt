@@ -2,19 +2,19 @@
 -- followed by what begins with no byte of the class. Each is a turn of `walk`, or a law of Walk.antt. Assumes nothing.
 use Prim.Native.Nat.{ℕ, suc, _+_, _≤_, _<_}
 use mathlib.Core.Path.{_≡_, refl, sym, ap, _∙_}
-use mathlib.Core.Bool.{Bool, true, false, cond, true≢false}
-use mathlib.Core.List.{List, [], _∷_}
+use mathlib.Core.Bool.{true, false, cond, true≢false}
+use mathlib.Core.List.{List}
 use native.Mathlib.Numerals.{add-one}
 use native.Mathlib.Omega.{arith}
 use native.Mathlib.Decide.{decLt}
-use lib.ListN.{length, getD, drop, drop-of-length-le, List·getD-eq-default}
+use lib.ListN.{length, getD, drop, List·getD-eq-default}
 use lib.Seq.{drop-cons}
 use lib.Dec.{eqb}
 use borrow.Author.Tests.{ne-eqb, eqb-true}
 use Rattle.patterns.specs.Utf8.{Class}
 use Rattle.patterns.specs.Pattern.{Pat, nothing, byte, seq, star, plus, nullable, deriv, walk, longest}
 use Rattle.patterns.specs.Bools.{by-test}
-use Rattle.patterns.specs.Walk.{Came, start, step, over, free, swap, span, span-yes, span-no, span-over, span-stops, skip, through}
+use Rattle.patterns.specs.Walk.{ends, Came, start, step, free, swap, span, span-yes, span-no, span-over, span-stops, skip, through}
 
 -- past its end a source reads as 0: any other byte stands within it
 pub outside : (s : List ℕ) (i n : ℕ) → length s ≤ i → 0 < n → eqb (getD s i 0) n ≡ false
@@ -27,41 +27,10 @@ inside s i n e l = go (decLt i (length s))
     go (yes h) = h
     go (no h) = absurd (true≢false (sym e ∙ outside s i n (omega arith) l))
 
-dead : (xs : List ℕ) (k b : ℕ) → walk nothing xs k b ≡ b
-unfolding walk
-dead [] k b = refl
-dead (x ∷ xs) k b = dead xs (suc k) b
-
--- what stands at i, if anything does, ends q
-ends : (q : Pat) (s : List ℕ) (i b : ℕ) → (i < length s → deriv (getD s i 0) q ≡ nothing) → cond (nullable q) i b ≡ walk q (drop i s) i b
-unfolding walk
-ends q s i b e = go (decLt i (length s))
-  where
-    go : Dec (i < length s) → cond (nullable q) i b ≡ walk q (drop i s) i b
-    go (yes h) =
-        rw (drop-cons s i 0)
-        (sym
-        (ap (λ (r : Pat). walk r (drop (suc i) s) (suc i) (cond (nullable q) i b)) (e h) ∙ dead (drop (suc i) s) (suc i) (cond (nullable q) i b)))
-    go (no h) = let l : length s ≤ i = omega arith in rw (drop-of-length-le s l)
-
 module _ {p : Pat} {s : List ℕ} {at : ℕ} {q : Pat} {i b : ℕ} (c : Came p s at q i b) where
-  pub halt : (i < length s → deriv (getD s i 0) q ≡ nothing) → cond (nullable q) i b ≡ at + longest p (drop at s)
-  halt e = ends q s i b e ∙ sym (c .same)
-
   -- the byte n stands at i
   pub accept : {q′ : Pat} (n : ℕ) → 0 < n → eqb (getD s i 0) n ≡ true → deriv n q ≡ q′ → Came p s at q′ (i + 1) (cond (nullable q) i b)
   accept n l e d = step c (inside s i n e l) (ap (λ (x : ℕ). deriv x q) (eqb-true (getD s i 0) n e) ∙ d)
-
-  -- q may be exchanged for a pattern that treats alike what stands at i
-  pub exchange : (q′ : Pat) → nullable q ≡ nullable q′ → (i < length s → deriv (getD s i 0) q ≡ deriv (getD s i 0) q′) → Came p s at q′ i b
-  unfolding walk
-  exchange q′ n e = go (decLt i (length s))
-    where
-      go : Dec (i < length s) → Came p s at q′ i b
-      go (yes h) = swap c q′ h n (e h)
-      go (no h) =
-          let l : length s ≤ i = omega arith in
-          record { same = sym (over c l) ∙ rw (drop-of-length-le s l) (ap (λ (t : Bool). cond t i b) n) }
 
 -- A byte of the class f and then q.
 module _ (f : Class) (q : Pat) where
@@ -125,7 +94,7 @@ module _ (f : Class) (r : Pat) (apart : (x : ℕ) → f x ≡ true → deriv x r
   then-off x h = simp h
 
   past : {p : Pat} {s : List ℕ} {at i j b : ℕ} → Came p s at (seq (star (byte f)) r) i b → j ≡ i + span f (drop i s) → Came p s at r j b
-  past {s} {i} {j} c e = exchange (skip f c e then-on) r refl (λ h. then-off (getD s j 0) (span-stops f s i e h))
+  past {s} {i} {j} c e = swap (skip f c e then-on) r refl (λ h. then-off (getD s j 0) (span-stops f s i e h))
 
 -- A byte of the class d, a run of the class f and then r, where the byte and the run alone end at e.
 module _ (d f : Class) (r : Pat) (s : List ℕ) (at : ℕ) {e : ℕ} (h : e ≡ walk (seq (byte d) (star (byte f))) (drop at s) at at) where

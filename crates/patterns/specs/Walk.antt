@@ -53,6 +53,17 @@ unfolding walk
 best-free q [] k b b′ e = rw e
 best-free q (x ∷ s) k b b′ e = rw e
 
+-- what stands at i, if anything does, ends q
+pub ends : (q : Pat) (s : List ℕ) (i b : ℕ) → (i < length s → deriv (getD s i 0) q ≡ nothing) → cond (nullable q) i b ≡ walk q (drop i s) i b
+unfolding walk
+ends q s i b e = go (decLt i (length s))
+  where
+    go : Dec (i < length s) → cond (nullable q) i b ≡ walk q (drop i s) i b
+    go (yes h) =
+        rw (drop-cons s i 0)
+        (sym (ap (λ (r : Pat). walk r (drop (suc i) s) (suc i) (cond (nullable q) i b)) (e h) ∙ dead (drop (suc i) s) (suc i) (cond (nullable q) i b)))
+    go (no h) = let l : length s ≤ i = omega arith in rw (drop-of-length-le s l)
+
 -- The invariant, and its laws.
 
 pub record Came (p : Pat) (s : List ℕ) (at : ℕ) (q : Pat) (i b : ℕ) : Type 0 where
@@ -80,6 +91,25 @@ module _ {p : Pat} {s : List ℕ} {at : ℕ} {q : Pat} {i b : ℕ} (c : Came p s
   unfolding walk
   over h = sym (c .same ∙ rw (drop-of-length-le s h))
 
+  -- either of the two
+  pub halt : (i < length s → deriv (getD s i 0) q ≡ nothing) → cond (nullable q) i b ≡ at + longest p (drop at s)
+  halt e = ends q s i b e ∙ sym (c .same)
+
+  -- q may be exchanged for a pattern that treats alike what stands at i
+  pub swap : (q′ : Pat) → nullable q ≡ nullable q′ → (i < length s → deriv (getD s i 0) q ≡ deriv (getD s i 0) q′) → Came p s at q′ i b
+  unfolding walk
+  swap q′ n e = go (decLt i (length s))
+    where
+      go : Dec (i < length s) → Came p s at q′ i b
+      go (yes h) = record {
+        same = c .same ∙ rw (drop-cons s i 0)
+            (ap (λ (r : Pat). walk r (drop (suc i) s) (suc i) (cond (nullable q) i b)) (e h)
+            ∙ ap (λ (t : Bool). walk (deriv (getD s i 0) q′) (drop (suc i) s) (suc i) (cond t i b)) n);
+      }
+      go (no h) =
+          let l : length s ≤ i = omega arith in
+          record { same = sym (over l) ∙ rw (drop-of-length-le s l) (ap (λ (t : Bool). cond t i b) n) }
+
   -- where q matches the empty text, the best end is i whatever it was
   pub free : {b′ : ℕ} → nullable q ≡ true → Came p s at q i b′
   free {b′} e = record { same = c .same ∙ best-free q (drop i s) i b b′ e }
@@ -87,16 +117,6 @@ module _ {p : Pat} {s : List ℕ} {at : ℕ} {q : Pat} {i b : ℕ} (c : Came p s
   -- and another loop may go on for q alone
   pub onto : nullable q ≡ true → i + longest q (drop i s) ≡ at + longest p (drop at s)
   onto e = start q s i .same ∙ best-free q (drop i s) i i b e ∙ sym (c .same)
-
--- q may be exchanged for a pattern that the byte at i treats alike
-pub swap : {p : Pat} {s : List ℕ} {at : ℕ} {q : Pat} {i b : ℕ} → Came p s at q i b → (q′ : Pat) → i < length s → nullable q ≡ nullable q′
-    → deriv (getD s i 0) q ≡ deriv (getD s i 0) q′ → Came p s at q′ i b
-unfolding walk
-swap {s} {q} {i} {b} c q′ h n e = record {
-  same = c .same ∙ rw (drop-cons s i 0)
-      (ap (λ (r : Pat). walk r (drop (suc i) s) (suc i) (cond (nullable q) i b)) e
-      ∙ ap (λ (t : Bool). walk (deriv (getD s i 0) q′) (drop (suc i) s) (suc i) (cond t i b)) n);
-}
 
 -- two patterns that have come to the same end alike
 pub both : {p p′ : Pat} {s : List ℕ} {at : ℕ} {q : Pat} {i b : ℕ} → Came p s at q i b → Came p′ s at q i b → at + longest p (drop at s) ≡ at + longest p′ (drop at s)

@@ -5,7 +5,6 @@ use mathlib.Core.Path.{_≡_, refl, sym, ap, _∙_}
 use mathlib.Core.List.{List, [], _∷_}
 use native.Mathlib.Omega.{arith}
 use lib.ListN.{length, drop, length-drop}
-use Rattle.patterns.specs.declared.Front.{Front}
 use Rattle.patterns.specs.declared.Front.the-variants.{Whole, Broken}
 use Rattle.patterns.specs.Utf8.{decode}
 use Rattle.patterns.specs.Pattern.{longest}
@@ -13,7 +12,6 @@ use Rattle.tokens.specs.declared.Hit.{Hit}
 use Rattle.tokens.specs.declared.Mode.{Mode}
 use Rattle.tokens.specs.declared.Mode.the-variants.{Normal}
 use Rattle.tokens.specs.declared.Choice.{Choice}
-use Rattle.tokens.specs.declared.Scanned.{Scanned}
 use Rattle.tokens.specs.Kinds.{INVALID-UTF8, UNKNOWN}
 use Rattle.tokens.specs.Tokens.{Tables}
 use Rattle.tokens.specs.Scan.{best, rules, tried, chosen, plain, unmatched, or-else, choose, token, found, scan-rest, scan}

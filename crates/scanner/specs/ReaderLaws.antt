@@ -1,23 +1,19 @@
 -- The cases of a scan by a reader: refused, at the end, or a token. The tests of 24 come first, and then the definition's scan.
 -- Assumes nothing.
 use Prim.Native.Nat.{ℕ, _≤_, _<_}
-use mathlib.Core.Path.{_≡_, refl, sym, ap, _∙_}
-use mathlib.Core.Bool.{Bool, true, false, cond, _&&_}
+use mathlib.Core.Path.{_≡_, sym, ap, _∙_}
 use mathlib.Core.List.{List}
 use native.Mathlib.Omega.{arith}
 use lib.ListN.{length, drop}
-use lib.Dec.{leb}
 use borrow.Author.Tests.{le-leb, lt-leb}
 use Rattle.refusals.specs.declared.Refusal.the-variants.{NotAsOpened}
 use Rattle.tokens.specs.declared.Choice.{Choice}
-use Rattle.tokens.specs.declared.Scanned.{Scanned}
 use Rattle.tokens.specs.Tokens.{tables-1}
 use Rattle.tokens.specs.Scan.{tried, choose, found, scan}
 use Rattle.tokens.specs.ScanLaws.{scan-end}
 use Rattle.scanner.specs.declared.Reader.{Reader}
-use Rattle.scanner.specs.declared.Scan.{Scan}
 use Rattle.scanner.specs.declared.Scan.the-variants.{End, Refused}
-use Rattle.scanner.specs.Reading.{source-limit, sound, moved, scan-of}
+use Rattle.scanner.specs.Reading.{source-limit, moved, scan-of}
 use Rattle.scanner.specs.Choosing.{scan-chosen}
 
 module _ (s : List ℕ) (r : Reader) where

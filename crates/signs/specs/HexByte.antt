@@ -1,37 +1,19 @@
 -- Hex bytes: perhaps `~`, then two nibbles, a nibble being `?` or a hex digit. The laws go byte by byte (Walk's `Came`); past the end
 -- the byte is taken as 0, which is no nibble. Assumes nothing.
-use Prim.Native.Nat.{ℕ, _+_, _≤_, _<_}
+use Prim.Native.Nat.{ℕ, _+_, _<_}
 use mathlib.Core.Path.{_≡_, refl, sym, ap, _∙_}
-use mathlib.Core.Bool.{Bool, true, false, not, cond, _&&_, _||_, false≢true}
-use mathlib.Core.Logic.{⊎-elim}
+use mathlib.Core.Bool.{Bool, true, false, _&&_, false≢true}
 use mathlib.Core.List.{List}
 use native.Mathlib.Omega.{arith}
-use native.Mathlib.Decide.{decLt}
 use lib.ListN.{length, getD, drop}
-use lib.Dec.{eqb, leb}
-use borrow.Author.Tests.{not-true, eqb-true, ne-eqb, le-leb}
-use Rattle.patterns.specs.Bools.{and-first, and-second, or-cases, by-test}
-use Rattle.patterns.specs.Lists.{each, members, each-member}
-use Rattle.patterns.specs.Pattern.{Pat, nothing, byte, seq, nullable, deriv, longest}
-use Rattle.patterns.specs.Walk.{Came, start, move, stop, over, swap, done}
+use borrow.Author.Tests.{ne-eqb}
+use Rattle.patterns.specs.Bools.{and-first, and-second, by-test}
+use Rattle.patterns.specs.Pattern.{Pat, byte, seq, deriv, longest}
+use Rattle.patterns.specs.Walk.{Came, start, move, halt, swap, done}
 use Rattle.tokens.specs.Tokens.{hex-or-mark, hex-byte}
 use Rattle.signs.specs.Signs.{Byte, inside}
 
 -- One nibble.
-
--- t is what the class says of every byte from low up to high but `?`
-abbrev settled : Bool → ℕ → ℕ → Bool
-settled t low high = each (λ x. eqb x 63 || cond t (hex-or-mark x) (not (hex-or-mark x))) (members high (leb low))
-
-pub by-range : (t : Bool) (low high b : ℕ) → settled t low high ≡ true → (low ≤ b) × (b < high) × (b ≡ 63 → ⊥) → t ≡ hex-or-mark b
-by-range t low high b e h =
-    ⊎-elim (λ z. absurd (h .2 (eqb-true b 63 z))) (go t)
-    (or-cases (eqb b 63) (cond t (hex-or-mark b) (not (hex-or-mark b)))
-    (each-member high (leb low) (λ x. eqb x 63 || cond t (hex-or-mark x) (not (hex-or-mark x))) e b (h .1) (le-leb low b (h .0))))
-  where
-    go : (t : Bool) → cond t (hex-or-mark b) (not (hex-or-mark b)) ≡ true → t ≡ hex-or-mark b
-    go true q = sym q
-    go false q = sym (not-true (hex-or-mark b) q)
 
 nibble-inside : (s : List ℕ) (i : ℕ) → hex-or-mark (getD s i 0) ≡ true → i < length s
 nibble-inside s i e = inside {s = s} {i = i} (record { is = refl }) (λ z. false≢true (ap hex-or-mark (sym z) ∙ e))
@@ -43,14 +25,6 @@ nibbles = seq (byte hex-or-mark) (byte hex-or-mark)
 
 abbrev both : List ℕ → ℕ → Bool
 both s i = hex-or-mark (getD s i 0) && hex-or-mark (getD s (i + 1) 0)
-
--- where the source ends, or a byte stands that does not fit, the match ends
-ends : {p : Pat} {s : List ℕ} {at : ℕ} {q : Pat} {i b : ℕ} → Came p s at q i b → nullable q ≡ false → deriv (getD s i 0) q ≡ nothing → b ≡ at + longest p (drop at s)
-ends {p} {s} {at} {q} {i} {b} c n e = go (decLt i (length s))
-  where
-    go : Dec (i < length s) → b ≡ at + longest p (drop at s)
-    go (yes h) = rw n at (stop c h e)
-    go (no h) = rw n at (over c (omega arith))
 
 module _ {p : Pat} {s : List ℕ} {at i b : ℕ} (c : Came p s at nibbles i b) where
   second : hex-or-mark (getD s i 0) ≡ true → Came p s at (byte hex-or-mark) (i + 1) b
@@ -66,7 +40,7 @@ module _ {p : Pat} {s : List ℕ} {at i b : ℕ} (c : Came p s at nibbles i b) w
 
   not-there : both s i ≡ false → b ≡ at + longest p (drop at s)
   unfolding deriv
-  not-there e = by-test (hex-or-mark (getD s i 0)) (λ f. ends (second f) refl (rw (rw f at e))) (λ f. ends c refl (rw f))
+  not-there e = by-test (hex-or-mark (getD s i 0)) (λ f. halt (second f) (λ h. rw (rw f at e))) (λ f. halt c (λ h. rw f))
 
 -- whether two nibbles stand at the place i
 pub record Nibbles (s : List ℕ) (i : ℕ) (r : Bool) : Type 0 where
@@ -100,17 +74,12 @@ module _ {s : List ℕ} {at a : ℕ} (r : Byte s at a) {t : Bool} where
     tilde-no p = not-there behind (sym (n .is) ∙ p)
 
   module _ (e : a ≡ 126 → ⊥) (n : Nibbles s at t) where
-    alone : at < length s → Came hex-byte s at nibbles at at
+    alone : Came hex-byte s at nibbles at at
     unfolding deriv
-    alone h = swap (start hex-byte s at) nibbles h refl (rw (← (r .is), ne-eqb a 126 e))
+    alone = swap (start hex-byte s at) nibbles refl (λ h. rw (← (r .is), ne-eqb a 126 e))
 
     pub plain-yes : t ≡ true → at + 2 ≡ at + longest hex-byte (drop at s)
-    plain-yes p =
-        there (alone (nibbles-inside n p)) (sym (n .is) ∙ p)
+    plain-yes p = there alone (sym (n .is) ∙ p)
 
     pub plain-no : t ≡ false → at ≡ at + longest hex-byte (drop at s)
-    plain-no p = go (decLt at (length s))
-      where
-        go : Dec (at < length s) → at ≡ at + longest hex-byte (drop at s)
-        go (yes h) = not-there (alone h) (sym (n .is) ∙ p)
-        go (no h) = over (start hex-byte s at) (omega arith)
+    plain-no p = not-there alone (sym (n .is) ∙ p)

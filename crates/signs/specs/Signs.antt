@@ -11,12 +11,13 @@ use lib.ListN.{length, getD, drop, List·getD-eq-default}
 use lib.Seq.{getD-drop}
 use lib.Dec.{eqb, leb}
 use borrow.Author.Tests.{ne-eqb, leb-true}
-use Rattle.patterns.specs.Bools.{and-first, and-second, by-test}
+use Rattle.patterns.specs.Bools.{and-first, and-second}
 use Rattle.patterns.specs.Lists.{each}
 use Rattle.patterns.specs.Pattern.{literal, longest}
-use Rattle.patterns.specs.Walk.{start, done, prefix, text-alone, text-yes, text-no}
+use Rattle.patterns.specs.Walk.{prefix, literal-longest}
 use Rattle.tokens.specs.declared.Hit.{Hit}
 use Rattle.tokens.specs.Tokens.{Spelling, spelled, one-of}
+use Rattle.tokens.specs.NoneOf.{NoneOf, not-one}
 use Rattle.tokens.specs.Scan.{hit, better, best}
 
 -- how many bytes a spelling takes where the bytes a and b stand
@@ -37,11 +38,6 @@ short [] = false
 short (x ∷ []) = leb 1 x
 short (x ∷ y ∷ []) = leb 1 x && leb 1 y
 short (x ∷ y ∷ z ∷ zs) = false
-
-literal-longest : (ys s : List ℕ) → longest (literal ys) s ≡ cond (prefix ys s) (length ys) 0
-literal-longest ys s =
-    by-test (prefix ys s) (λ e. rw e (omega (arith, done (text-yes (text-alone ys) (start (literal ys) s 0) e))))
-    (λ e. rw e (omega (arith, text-no (text-alone ys) (start (literal ys) s 0) e)))
 
 -- 0 is no byte of a spelling
 no-end : (x : ℕ) → leb 1 x ≡ true → eqb 0 x ≡ false
@@ -64,14 +60,6 @@ best-told (w ∷ ws) s h =
     rw (literal-taken (w .bytes) s (and-first (short (w .bytes)) (each (λ w. short (w .bytes)) ws) h), best-told ws s (and-second (short (w .bytes)) (each (λ w. short (w .bytes)) ws) h))
 
 -- A byte with which no spelling begins: it is none of `firsts`, and each spelling begins with one of those.
-abbrev pub NoneOf : List ℕ → ℕ → Type 0
-NoneOf [] a = Unit {0}
-NoneOf (x ∷ xs) a = NoneOf xs a × (a ≡ x → ⊥)
-
-not-one : (xs : List ℕ) (a : ℕ) → NoneOf xs a → one-of xs a ≡ false
-not-one [] a h = refl
-not-one (x ∷ xs) a h = rw (ne-eqb a x (h .1)) (not-one xs a (h .0))
-
 module _ (firsts : List ℕ) (a b : ℕ) (h : one-of firsts a ≡ false) where
   differs : (x : ℕ) → one-of firsts x ≡ true → eqb a x ≡ false
   differs x e = ne-eqb a x (λ q. true≢false (sym e ∙ ap (one-of firsts) (sym q) ∙ h))
@@ -106,8 +94,12 @@ module _ (ws : List Spelling) (tidy : each (λ w. short (w .bytes)) ws ≡ true)
   pub at-one : {x : ℕ} {h : Hit} → a ≡ x → h ≡ told ws x (getD s (at + 1) 0) → h ≡ best (map spelled ws) (drop at s)
   at-one e q = q ∙ sym (told-at ∙ rw e)
 
-  pub at-two : {x b : ℕ} {h : Hit} → a ≡ x → Byte s (at + 1) b → h ≡ told ws x b → h ≡ best (map spelled ws) (drop at s)
-  at-two e n q = q ∙ sym (told-at ∙ rw (e, n .is))
+  -- with the next byte, and where that is known
+  pub at-next : {x b : ℕ} {h : Hit} → a ≡ x → Byte s (at + 1) b → h ≡ told ws x b → h ≡ best (map spelled ws) (drop at s)
+  at-next e n q = at-one e (q ∙ rw (n .is))
+
+  pub at-two : {x b y : ℕ} {h : Hit} → a ≡ x → Byte s (at + 1) b → b ≡ y → h ≡ told ws x y → h ≡ best (map spelled ws) (drop at s)
+  at-two e n f q = at-next e n (q ∙ rw f)
 
   pub at-none : (firsts : List ℕ) → each (λ w. one-of firsts (getD (w .bytes) 0 0)) ws ≡ true → NoneOf firsts a → hit 0 0 ≡ best (map spelled ws) (drop at s)
   at-none firsts e n = sym (told-at ∙ none-told firsts a (getD s (at + 1) 0) (not-one firsts a n) ws e)

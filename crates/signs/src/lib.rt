@@ -106,22 +106,12 @@ pub fn newline(src: &[u8], at: usize) -> Hit
     Hit { kind: NEWLINE, len }
 }
 
-// Whether a byte is a nibble: `?` or a hex digit.
-fn is_nibble(b: u8) -> bool
-    ensures { λ r. ⌜ r ≡ hex-or-mark b ⌝ }
-{
-    match b {
-        b'?' | b'0'..=b'9' | b'A'..=b'F' | b'a'..=b'f' => true,
-        _ => false,
-    }
-}
-
-// Whether two nibbles stand at a place.
+// Whether two nibbles stand at a place, each a hex digit or a question mark.
 fn nibbles_at(src: &[u8], at: usize) -> bool
     ensures { λ r. ⌜ Nibbles (now (src .entry)) at r ⌝ }
 {
-    if is_nibble(byte_at(src, at)) {
-        return is_nibble(byte_at(src, at + 1));
+    if classes::is_hex_or_mark(byte_at(src, at)) {
+        return classes::is_hex_or_mark(byte_at(src, at + 1));
     }
     false
 }

@@ -115,7 +115,7 @@ module _ (f : Class) (bare : f 92 ≡ false) where
               failed (rw not-empty at (on-broken c then-go x n)) q i not-empty (λ l. begins backslash no-back (getD s i 0) (stands-yes backslash s i x))
 
           ended : stands backslash s i ≡ false → Came p s at q i b
-          ended x = swap c q h refl (after (getD s i 0) (other e (stands-no backslash s i h x)))
+          ended x = swap c q refl (λ l. after (getD s i 0) (other e (stands-no backslash s i h x)))
 
       -- an item is taken off both the row and the whole
       past-from : (n i : ℕ) → length s ≤ i + n → Past i

@@ -1,19 +1,17 @@
 -- Scanning laws that hold for any text: one byte of a class at a place, read or missed, and a match that has failed.
 -- Each is one turn of `walk`, or none. Assumes nothing.
-use Prim.Native.Nat.{ℕ, suc, _+_, _<_}
+use Prim.Native.Nat.{ℕ, _+_, _<_}
 use mathlib.Core.Path.{_≡_, refl, sym, ap, _∙_, fun-ext}
 use mathlib.Core.Bool.{Bool, true, false, cond, _&&_, and-true, or-false}
 use mathlib.Core.List.{List, [], _∷_}
-use native.Mathlib.Omega.{arith}
-use native.Mathlib.Decide.{decLt}
-use lib.ListN.{length, getD, drop, drop-of-length-le}
+use lib.ListN.{length, getD, drop}
 use lib.Seq.{drop-cons}
 use lib.Dec.{ltb, eqb}
 use borrow.Author.Tests.{ltb-true, lt-ltb}
 use Rattle.patterns.specs.Utf8.{Class}
 use Rattle.patterns.specs.Bools.{and-first, and-second}
-use Rattle.patterns.specs.Pattern.{Pat, nothing, byte, seq, star, literal, nullable, follow, if-in, deriv, walk, longest}
-use Rattle.patterns.specs.Walk.{Came, step, stop, over, prefix}
+use Rattle.patterns.specs.Pattern.{Pat, nothing, byte, seq, star, literal, nullable, follow, if-in, deriv, longest}
+use Rattle.patterns.specs.Walk.{ends, Came, step, halt, prefix}
 use Rattle.tokens.specs.Tokens.{one-of}
 
 -- a byte of the class f stands at i
@@ -46,11 +44,7 @@ module _ {f : Class} {q q′ : Pat} (r : Reads f q q′) where
     takes e = step c (stands-within f s i e) (reads-yes (getD s i 0) (stands-yes f s i e))
 
     pub lacks : stands f s i ≡ false → cond (nullable q) i b ≡ at + longest p (drop at s)
-    lacks e = go (decLt i (length s))
-      where
-        go : Dec (i < length s) → cond (nullable q) i b ≡ at + longest p (drop at s)
-        go (no h) = over c (omega arith)
-        go (yes h) = stop c h (reads-no (getD s i 0) (stands-no f s i h e))
+    lacks e = halt c (λ h. reads-no (getD s i 0) (stands-no f s i h e))
 
 module _ (f : Class) where
   pub byte-reads : (q : Pat) → Reads f (seq (byte f) q) q
@@ -73,22 +67,7 @@ pub prefix-byte : (y : ℕ) (s : List ℕ) (i : ℕ) → i < length s → prefix
 unfolding prefix
 prefix-byte y s i h = rw (drop-cons s i 0) (and-true (eqb (getD s i 0) y))
 
-dead : (s : List ℕ) (k b : ℕ) → walk nothing s k b ≡ b
-unfolding walk
-dead [] k b = refl
-dead (x ∷ s) k b = dead s (suc k) b
-
 -- where the match has failed, any pattern that fails at i may be what is left there
 pub failed : {p : Pat} {s : List ℕ} {at b : ℕ} → b ≡ at + longest p (drop at s) → (q : Pat) (i : ℕ) → nullable q ≡ false
     → (i < length s → deriv (getD s i 0) q ≡ nothing) → Came p s at q i b
-unfolding walk
-failed {p} {s} {at} {b} e q i n d = go (decLt i (length s))
-  where
-    go : Dec (i < length s) → Came p s at q i b
-    go (no h) = record { same = sym (rw (drop-of-length-le s {i = i} (omega arith), n) e) }
-    go (yes h) = record {
-      same = sym
-          (rw (drop-cons s i 0)
-          (ap (λ (t : Bool). walk (deriv (getD s i 0) q) (drop (suc i) s) (suc i) (cond t i b)) n
-          ∙ ap (λ (r : Pat). walk r (drop (suc i) s) (suc i) b) (d h) ∙ dead (drop (suc i) s) (suc i) b ∙ e));
-    }
+failed {s} {b} e q i n d = record { same = sym e ∙ rw n at (ends q s i b d) }

@@ -5,15 +5,14 @@ use mathlib.Core.Path.{_≡_, refl, sym, _∙_, fun-ext}
 use mathlib.Core.Bool.{Bool, true, false, cond, not, _||_}
 use mathlib.Core.List.{List, [], _∷_}
 use native.Mathlib.Omega.{arith}
-use native.Mathlib.Decide.{decLt}
 use lib.ListN.{length, getD, drop}
 use lib.Dec.{eqb}
 use borrow.Author.Tests.{eqb-true}
 use Rattle.patterns.specs.Utf8.{Class}
 use Rattle.patterns.specs.Pattern.{Pat, nothing, empty, byte, seq, alt, literal, optional, at-most-two, follow, either, if-in, deriv, longest}
-use Rattle.patterns.specs.Walk.{Came, start, stop, over, swap, prefix, prefix-within}
+use Rattle.patterns.specs.Walk.{Came, start, stop, swap, prefix, prefix-within}
 use Rattle.tokens.specs.Tokens.{ascii, none-of, letter, pair, regexp}
-use Rattle.texts.specs.Places.{Reads, one-byte, prefix-byte, failed}
+use Rattle.texts.specs.Places.{Reads, one-byte, prefix-byte}
 use Rattle.texts.specs.Items.{items}
 use Rattle.texts.specs.Quoted.{plain}
 
@@ -63,11 +62,7 @@ first-byte x a b = go (eqb x 92) (eqb x 10) refl refl
 
 pub first-item : {p : Pat} {s : List ℕ} {at i b : ℕ} → Came p s at (seq first body) i b → prefix (ascii "*") (drop i s) ≡ false
     → prefix (ascii "/") (drop i s) ≡ false → Came p s at body i b
-first-item {p} {s} {at} {i} {b} c star slash = go (decLt i (length s))
-  where
-    go : Dec (i < length s) → Came p s at body i b
-    go (no h) = failed (over c (omega arith)) body i refl (λ l. absurd (h l))
-    go (yes h) = swap c body h refl (first-byte (getD s i 0) (sym (prefix-byte 42 s i h) ∙ star) (sym (prefix-byte 47 s i h) ∙ slash))
+first-item {s} {i} c star slash = swap c body refl (λ h. first-byte (getD s i 0) (sym (prefix-byte 42 s i h) ∙ star) (sym (prefix-byte 47 s i h) ∙ slash))
 
 -- at most two of a class, and at most one
 module _ (f : Class) where

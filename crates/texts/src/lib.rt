@@ -4,7 +4,6 @@ ghost use Prim.Native.Nat.{_+_, _<_};
 ghost use mathlib.Core.Path.{_≡_};
 ghost use mathlib.Core.List.{[], _∷_};
 ghost use lib.ListN.{length, getD, drop};
-ghost use Rattle.patterns.specs.Utf8.{between};
 ghost use Rattle.patterns.specs.Pattern.{byte, char, longest};
 ghost use Rattle.patterns.specs.Walk.{prefix};
 ghost use Rattle.tokens.specs.Tokens.{letter, string, multi-line-string, regexp, block-comment, line-comment};
@@ -105,12 +104,6 @@ pub fn multi_line_string(src: &[u8], at: usize) -> usize
 }
 
 // Whether `b` is in low..=high.
-fn within(b: u8, low: u8, high: u8) -> bool
-    ensures { λ r. ⌜ r ≡ between low high b ⌝ }
-{
-    low <= b && b <= high
-}
-
 // Whether a letter stands at `at`.
 fn letter_at(src: &[u8], at: usize) -> bool
     ensures { λ r. ⌜ r ≡ stands letter (now (src .entry)) at ⌝ }
@@ -118,8 +111,7 @@ fn letter_at(src: &[u8], at: usize) -> bool
     if src.len() <= at {
         return false;
     }
-    let b = src[at];
-    within(b, b'A', b'Z') || within(b, b'a', b'z')
+    classes::is_letter(src[at])
 }
 
 // The end of the modifiers at `at`: at most two letters.

@@ -3,6 +3,7 @@ pub mod Kinds
 pub mod Unicode
 pub mod Tokens
 pub mod Scan
+pub mod NoneOf
 pub mod Marked
 pub mod Examples
 pub mod Shapes

@@ -10,7 +10,7 @@ use Rattle.tokens.specs.declared.Token.{Token}
 use Rattle.tokens.specs.declared.Scanned.{Scanned}
 use Rattle.tokens.specs.declared.Scanned.the-variants.{End, Found}
 use Rattle.tokens.specs.Tokens.{Tables}
-use Rattle.tokens.specs.Scan.{scan, Listing, listing, onto, list-first, list-from, tokens}
+use Rattle.tokens.specs.Scan.{scan, listing, onto, list-first, list-from, tokens}
 use Rattle.tokens.specs.ScanLaws.{Step, scan-found, scan-end}
 
 -- the tokens lie one after the other from a to z, none of them empty

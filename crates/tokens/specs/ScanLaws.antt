@@ -1,7 +1,7 @@
 -- What holds of every scan: a token is never empty, starts at the place and ends within the source; none is answered exactly at the
 -- end. Proved once over any modes and rules: a choice takes at least one byte, and no rule more than there are. Assumes nothing.
 use Prim.Native.Nat.{ℕ, zero, suc, _-_, _≤_, _<_}
-use mathlib.Core.Path.{_≡_, refl, ap}
+use mathlib.Core.Path.{_≡_, refl}
 use mathlib.Core.Bool.{true}
 use mathlib.Core.Logic.{_↔_}
 use mathlib.Core.List.{List, [], _∷_}

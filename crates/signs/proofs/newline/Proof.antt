@@ -6,7 +6,7 @@ use native.Mathlib.Omega.{arith}
 use borrow.Author.Needs.{needs}
 use borrow.Author.Tests.{ne-eqb}
 use Rattle.tokens.specs.Tokens.{newlines}
-use Rattle.signs.specs.Signs.{inside, at-one, at-two, at-none}
+use Rattle.signs.specs.Signs.{inside, at-one, at-next, at-two, at-none}
 use Rattle.signs.proofs.newline.Statement.{statement}
 use Rattle.signs.proofs.newline.Tie as tie
 
@@ -18,5 +18,5 @@ newline-spec =
     (λ c. omega (arith, inside (c .before .byte-at .ensures) (λ e. omega arith))) (λ c κs. search needs)
     (λ c. at-none newlines refl (c .before .byte-at .ensures) (13 ∷ 10 ∷ []) refl (c .match .rest))
     (λ c. at-one newlines refl (c .before .byte-at .ensures) (c .match .keys1) refl)
-    (λ c. at-two newlines refl (c .before .before .before .byte-at .ensures) (c .before .before .match .keys2) (c .before .byte-at2 .ensures) (rw (c .match2 .keys1)))
-    (λ c. at-two newlines refl (c .before .before .before .byte-at .ensures) (c .before .before .match .keys2) (c .before .byte-at2 .ensures) (rw (ne-eqb (c .before .byte-at2 .result) 10 (c .match2 .rest .1)))))
+    (λ c. at-two newlines refl (c .before .before .before .byte-at .ensures) (c .before .before .match .keys2) (c .before .byte-at2 .ensures) (c .match2 .keys1) refl)
+    (λ c. at-next newlines refl (c .before .before .before .byte-at .ensures) (c .before .before .match .keys2) (c .before .byte-at2 .ensures) (rw (ne-eqb (c .before .byte-at2 .result) 10 (c .match2 .rest .1)))))

@@ -6,7 +6,7 @@ use native.Mathlib.Omega.{arith}
 use borrow.Author.Needs.{needs}
 use borrow.Author.Tests.{ne-eqb}
 use Rattle.tokens.specs.Tokens.{operators}
-use Rattle.signs.specs.Signs.{inside, at-one, at-two, at-none}
+use Rattle.signs.specs.Signs.{inside, at-one, at-next, at-two, at-none}
 use Rattle.signs.proofs.operator.Statement.{statement}
 use Rattle.signs.proofs.operator.Tie as tie
 
@@ -14,21 +14,24 @@ pub operator-spec : {M : Type 1} → statement M
 operator-spec =
     tie.close
     (tie.spec
+    -- the calls of `byte_at`, and that the next place is in reach
     (λ c κs. search needs)
     (λ c. omega (arith, inside (c .before .byte-at .ensures) (λ e. omega arith))) (λ c κs. search needs)
     (λ c. omega (arith, inside (c .before .byte-at .ensures) (λ e. omega arith))) (λ c κs. search needs)
     (λ c. omega (arith, inside (c .before .byte-at .ensures) (λ e. omega arith))) (λ c κs. search needs)
     (λ c. omega (arith, inside (c .before .byte-at .ensures) (λ e. omega arith))) (λ c κs. search needs)
-    (λ c. at-two operators refl (c .before .before .before .byte-at .ensures) (c .before .before .match .keys1) (c .before .byte-at2 .ensures) (rw (c .match2 .keys1)))
-    (λ c. at-two operators refl (c .before .before .before .byte-at .ensures) (c .before .before .match .keys1) (c .before .byte-at2 .ensures) (rw (c .match2 .keys2)))
-    (λ c. at-two operators refl (c .before .before .before .byte-at .ensures) (c .before .before .match .keys1) (c .before .byte-at2 .ensures) (rw (ne-eqb (c .before .byte-at2 .result) 60 (c .match2 .rest .0 .1), ne-eqb (c .before .byte-at2 .result) 61 (c .match2 .rest .1))))
-    (λ c. at-two operators refl (c .before .before .before .byte-at .ensures) (c .before .before .match .keys2) (c .before .byte-at3 .ensures) (rw (c .match3 .keys1)))
-    (λ c. at-two operators refl (c .before .before .before .byte-at .ensures) (c .before .before .match .keys2) (c .before .byte-at3 .ensures) (rw (c .match3 .keys2)))
-    (λ c. at-two operators refl (c .before .before .before .byte-at .ensures) (c .before .before .match .keys2) (c .before .byte-at3 .ensures) (rw (ne-eqb (c .before .byte-at3 .result) 62 (c .match3 .rest .0 .1), ne-eqb (c .before .byte-at3 .result) 61 (c .match3 .rest .1))))
-    (λ c. at-two operators refl (c .before .before .before .byte-at .ensures) (c .before .before .match .keys3) (c .before .byte-at4 .ensures) (rw (c .match4 .keys1)))
-    (λ c. at-two operators refl (c .before .before .before .byte-at .ensures) (c .before .before .match .keys3) (c .before .byte-at4 .ensures) (rw (ne-eqb (c .before .byte-at4 .result) 61 (c .match4 .rest .1))))
-    (λ c. at-two operators refl (c .before .before .before .byte-at .ensures) (c .before .before .match .keys4) (c .before .byte-at5 .ensures) (rw (c .match5 .keys1)))
-    (λ c. at-two operators refl (c .before .before .before .byte-at .ensures) (c .before .before .match .keys4) (c .before .byte-at5 .ensures) (rw (ne-eqb (c .before .byte-at5 .result) 61 (c .match5 .rest .1))))
+    -- `<` `>` `=` `!`, each with what may follow
+    (λ c. at-two operators refl (c .before .before .before .byte-at .ensures) (c .before .before .match .keys1) (c .before .byte-at2 .ensures) (c .match2 .keys1) refl)
+    (λ c. at-two operators refl (c .before .before .before .byte-at .ensures) (c .before .before .match .keys1) (c .before .byte-at2 .ensures) (c .match2 .keys2) refl)
+    (λ c. at-next operators refl (c .before .before .before .byte-at .ensures) (c .before .before .match .keys1) (c .before .byte-at2 .ensures) (rw (ne-eqb (c .before .byte-at2 .result) 60 (c .match2 .rest .0 .1), ne-eqb (c .before .byte-at2 .result) 61 (c .match2 .rest .1))))
+    (λ c. at-two operators refl (c .before .before .before .byte-at .ensures) (c .before .before .match .keys2) (c .before .byte-at3 .ensures) (c .match3 .keys1) refl)
+    (λ c. at-two operators refl (c .before .before .before .byte-at .ensures) (c .before .before .match .keys2) (c .before .byte-at3 .ensures) (c .match3 .keys2) refl)
+    (λ c. at-next operators refl (c .before .before .before .byte-at .ensures) (c .before .before .match .keys2) (c .before .byte-at3 .ensures) (rw (ne-eqb (c .before .byte-at3 .result) 62 (c .match3 .rest .0 .1), ne-eqb (c .before .byte-at3 .result) 61 (c .match3 .rest .1))))
+    (λ c. at-two operators refl (c .before .before .before .byte-at .ensures) (c .before .before .match .keys3) (c .before .byte-at4 .ensures) (c .match4 .keys1) refl)
+    (λ c. at-next operators refl (c .before .before .before .byte-at .ensures) (c .before .before .match .keys3) (c .before .byte-at4 .ensures) (rw (ne-eqb (c .before .byte-at4 .result) 61 (c .match4 .rest .1))))
+    (λ c. at-two operators refl (c .before .before .before .byte-at .ensures) (c .before .before .match .keys4) (c .before .byte-at5 .ensures) (c .match5 .keys1) refl)
+    (λ c. at-next operators refl (c .before .before .before .byte-at .ensures) (c .before .before .match .keys4) (c .before .byte-at5 .ensures) (rw (ne-eqb (c .before .byte-at5 .result) 61 (c .match5 .rest .1))))
+    -- the others, and no operator
     (λ c. at-one operators refl (c .before .byte-at .ensures) (c .match .keys5) refl)
     (λ c. at-one operators refl (c .before .byte-at .ensures) (c .match .keys6) refl)
     (λ c. at-one operators refl (c .before .byte-at .ensures) (c .match .keys7) refl)

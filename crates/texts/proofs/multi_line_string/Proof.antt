@@ -1,4 +1,4 @@
--- `texts::multi_line_string` meets its contract: it is what stands between three quotes, LF too (multi-line-quoted).
+-- `texts::multi_line_string` meets its contract: it is what stands between three quotes and three more, LF too (multi-line-quoted).
 -- Assumes nothing.
 use mathlib.Core.Path.{_∙_}
 use borrow.Author.Needs.{needs}

@@ -1,4 +1,4 @@
--- `texts::string` meets its contract: a string is what stands between single quotes, without LF (string-quoted).
+-- `texts::string` meets its contract: it is what stands between one quote and the next, LF excepted (string-quoted).
 -- Assumes nothing.
 use mathlib.Core.Path.{_∙_}
 use borrow.Author.Needs.{needs}
