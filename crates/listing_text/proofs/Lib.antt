@@ -1,0 +1,2 @@
+-- What the proofs of both passes cite.
+pub mod Ends

@@ -1,0 +1,11 @@
+-- The listing's text (Listing), bytes put into a lent list (Put), and what a call answers (Listed): the definitions, the examples that
+-- pin them, and the laws.
+pub mod Listing
+pub mod Put
+pub mod Listed
+pub mod Examples
+pub mod Numbers
+pub mod Rest
+pub mod Sizes
+pub mod Turns
+pub mod ListedLaws

@@ -1,0 +1,32 @@
+-- What a call of `list` answers, and what it leaves in the lent bytes: document 01's refusal 1 first, then 15 where the text has no
+-- room; on a refusal every byte stays. Assumes nothing.
+use Prim.Native.Nat.{ℕ}
+use mathlib.Core.Bool.{cond}
+use mathlib.Core.List.{List}
+use lib.ListN.{length}
+use lib.Dec.{leb}
+use Rattle.refusals.specs.declared.Refusal.the-variants.{SourceTooLong, NoRoom}
+use Rattle.tokens.specs.declared.Mode.the-variants.{Normal}
+use Rattle.tokens.specs.Tokens.{tables-1}
+use Rattle.tokens.specs.Scan.{list-from, tokens}
+use Rattle.scanner.specs.Reading.{source-limit}
+use Rattle.listing_text.specs.declared.Listed.{Listed}
+use Rattle.listing_text.specs.declared.Listed.the-variants.{Written, Refused}
+use Rattle.listing_text.specs.Listing.{text}
+use Rattle.listing_text.specs.Put.{put}
+
+pub record Outcome : Type 0 where
+  pub answer : Listed
+  pub out : List ℕ
+
+abbrev pub outcome : Listed → List ℕ → Outcome
+outcome a out = record { answer = a; out = out }
+
+-- a text at the front of `out`, if it fits
+unfoldable pub written : List ℕ → List ℕ → Outcome
+unfolding put
+written t out = cond (leb (length t) (length out)) (outcome (Written (length t)) (put 0 t out)) (outcome (Refused NoRoom) out)
+
+unfoldable pub listed : List ℕ → List ℕ → Outcome
+unfolding text list-from written
+listed src out = cond (leb (length src) source-limit) (written (text (tokens tables-1 Normal src)) out) (outcome (Refused SourceTooLong) out)

@@ -1,0 +1,77 @@
+-- The cases of what `list` answers, from what opening and the two passes say; how much room is always enough; and that the contract
+-- leaves no choice. Each is one look at the definition's tests. Assumes nothing.
+use Prim.Native.Nat.{ℕ, _≤_, _<_, zero-le}
+use mathlib.Core.Path.{_≡_, refl, sym, ap, _∙_}
+use mathlib.Core.Bool.{Bool, true, false, cond}
+use mathlib.Core.List.{List}
+use native.Mathlib.Omega.{arith}
+use lib.ListN.{length}
+use lib.Dec.{leb}
+use borrow.Author.Tests.{leb-true, le-leb, lt-leb}
+use Rattle.refusals.specs.declared.Refusal.{Refusal}
+use Rattle.refusals.specs.declared.Refusal.the-variants.{SourceTooLong, NoRoom}
+use Rattle.tokens.specs.declared.Mode.the-variants.{Normal}
+use Rattle.tokens.specs.declared.Token.{Token}
+use Rattle.tokens.specs.Tokens.{tables-1}
+use Rattle.tokens.specs.Scan.{tokens}
+use Rattle.scanner.specs.declared.Reader.{Reader}
+use Rattle.scanner.specs.declared.Opened.{Opened}
+use Rattle.scanner.specs.declared.Opened.the-variants as opened
+use Rattle.scanner.specs.Reading.{source-limit, open-of}
+use Rattle.listing_text.specs.declared.Listed.{Listed}
+use Rattle.listing_text.specs.declared.Listed.the-variants.{Written, Refused}
+use Rattle.listing_text.specs.Listing.{lines, head, text}
+use Rattle.listing_text.specs.Listed.{Outcome, outcome, written, listed}
+use Rattle.listing_text.specs.Put.{put, Wrote, wrote-both}
+use Rattle.listing_text.specs.Numbers.{text-parts, length-text}
+use Rattle.listing_text.specs.Rest.{Sound, rest}
+use Rattle.listing_text.specs.Sizes.{text-fits}
+use Rattle.listing_text.specs.Turns.{Sized}
+
+-- The text of some tokens that were measured.
+module _ {xs : List Token} {count bytes : ℕ} (s : Sized xs count bytes) (out : List ℕ) where
+  size : bytes ≡ length (text xs)
+  size = omega (arith, length-text xs, ap (λ n. length (head n)) (s .counted))
+
+  pub written-short : length out < bytes → outcome (Refused NoRoom) out ≡ written (text xs) out
+  unfolding written
+  written-short h = rw (lt-leb (length (text xs)) (length out) (omega (arith, size)))
+
+  -- the first line and then the others are the text
+  pub written-both : {mid after : List ℕ} {k n : ℕ} → bytes ≤ length out → Wrote 0 (head count) out mid k → Wrote k (lines xs) mid after n
+      → outcome (Written n) after ≡ written (text xs) out
+  unfolding written
+  written-both {after = after} {n = n} h f g =
+      let w : Wrote 0 (text xs) out after n = rw (text-parts xs, ← s .counted) (wrote-both f g (omega (arith, s .sized))) in
+      let e : n ≡ length (text xs) = omega (arith, w .behind) in
+      rw (le-leb (length (text xs)) (length out) (omega (arith, size)), w .bytes, e)
+
+-- where a source is opened
+abbrev start : Reader
+start = record { place = record { 0 = 0 }; mode = Normal }
+
+module _ (src out : List ℕ) where
+  -- What opening says: a reader from which all tokens are left, or the refusal.
+  abbrev pub Opens : Opened → Type 0
+  Opens (opened.Ready r) = Sound src r × (written (text (rest src r)) out ≡ listed src out)
+  Opens (opened.Refused n) = outcome (Refused n) out ≡ listed src out
+
+  pub opens : (y : Opened) → y ≡ open-of src → Opens y
+  unfolding listed
+  opens y e = rw e (go (leb (length src) source-limit) refl)
+    where
+      go : (t : Bool) → leb (length src) source-limit ≡ t → Opens (cond t (opened.Ready start) (opened.Refused SourceTooLong))
+      go true q = (record { limit = leb-true (length src) source-limit q; inside = zero-le }, rw q)
+      go false q = rw q
+
+  -- 983,038 bytes are room for every listing
+  pub listed-fits : length src ≤ source-limit → 983038 ≤ length out
+      → listed src out ≡ outcome (Written (length (text (tokens tables-1 Normal src)))) (put 0 (text (tokens tables-1 Normal src)) out)
+  unfolding listed
+  listed-fits l h =
+      let e : length (text (tokens tables-1 Normal src)) ≤ length out = omega (arith, text-fits src start (record { limit = l; inside = zero-le })) in
+      rw (le-leb (length src) source-limit l, le-leb (length (text (tokens tables-1 Normal src))) (length out) e)
+
+  -- two results that meet the contract are equal
+  pub listed-once : {a b : Listed} {o p : List ℕ} → outcome a o ≡ listed src out → outcome b p ≡ listed src out → (a ≡ b) × (o ≡ p)
+  listed-once e f = (ap (λ (x : Outcome). x .answer) (e ∙ sym f), ap (λ (x : Outcome). x .out) (e ∙ sym f))

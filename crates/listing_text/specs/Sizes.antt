@@ -1,0 +1,75 @@
+-- How long a listing can be. A kind is below 100 and an offset below 100000, so no line has more than 15 bytes; and since no token is
+-- empty, no source has more tokens than bytes. Assumes nothing.
+use Prim.Native.Nat.{ℕ, zero, suc, _+_, _*_, _≤_, _<_}
+use mathlib.Core.Path.{_≡_, refl}
+use mathlib.Core.List.{List, [], _∷_}
+use native.Mathlib.Omega.{arith}
+use lib.ListN.{length}
+use lib.Dec.{leb}
+use borrow.Author.Tests.{leb-true}
+use Rattle.patterns.specs.Utf8.{between}
+use Rattle.patterns.specs.Bools.{and-second}
+use Rattle.patterns.specs.Lists.{All}
+use Rattle.tokens.specs.declared.Mode.{Mode}
+use Rattle.tokens.specs.declared.Token.{Token}
+use Rattle.tokens.specs.declared.Scanned.{Scanned}
+use Rattle.tokens.specs.declared.Scanned.the-variants.{End, Found}
+use Rattle.tokens.specs.Tokens.{Tables, tables-1}
+use Rattle.tokens.specs.Scan.{scan, onto, list-first, list-from}
+use Rattle.tokens.specs.ScanLaws.{Step, scan-found, scan-kind, kinds-1}
+use Rattle.tokens.specs.ListLaws.{Tiles, list-tiles}
+use Rattle.scanner.specs.declared.Reader.{Reader}
+use Rattle.scanner.specs.Reading.{source-limit}
+use Rattle.listing_text.specs.Listing.{line, lines, text}
+use Rattle.listing_text.specs.Rest.{rest, Sound}
+use Rattle.listing_text.specs.Numbers.{decimal-short, length-line, length-head, length-lines, length-text}
+
+-- Every token of a list comes from a scan.
+module _ (t : Tables) (src : List ℕ) (P : Token → Type 0) (f : (at : ℕ) (m : Mode) (x : Token) (m′ : Mode) → scan t src at m ≡ Found x m′ → P x) where
+  first-all : (n at : ℕ) (m : Mode) → All P ((list-first n t src at m) .tokens)
+  unfolding list-first
+  first-all zero at m = tt
+  first-all (suc n) at m = go (scan t src at m) refl (λ e m′. first-all n e m′)
+    where
+      go : (y : Scanned) → scan t src at m ≡ y → ((e : ℕ) (m′ : Mode) → All P ((list-first n t src e m′) .tokens)) → All P ((onto y m (λ e m′. list-first n t src e m′)) .tokens)
+      go End e g = tt
+      go (Found x m′) e g = (f at m x m′ e, g (x .end .0) m′)
+
+-- tokens that lie one after the other, none of them empty, are no more than the bytes that they cover
+tile-count : (a z : ℕ) (xs : List Token) → Tiles a z xs → a + length xs ≤ z
+tile-count a z [] h = omega arith
+tile-count a z (x ∷ xs) h = omega (arith, tile-count (x .end .0) z xs (h .2))
+
+-- what every token of a source within the limit is
+record Small (x : Token) : Type 0 where
+  kind : x .kind < 100
+  start : x .start .0 < 100000
+  end : x .end .0 < 100000
+
+line-short : (x : Token) → Small x → length (line x) ≤ 15
+line-short x s = omega (arith, length-line x, decimal-short 1 (x .kind) (s .kind), decimal-short 4 (x .start .0) (s .start), decimal-short 4 (x .end .0) (s .end))
+
+lines-short : (xs : List Token) → All Small xs → length (lines xs) ≤ 15 * length xs
+unfolding lines
+lines-short [] h = omega arith
+lines-short (x ∷ xs) h = omega (arith, length-lines x xs, line-short x (h .0), lines-short xs (h .1))
+
+module _ (src : List ℕ) (r : Reader) (h : Sound src r) where
+  small : (at : ℕ) (m : Mode) (x : Token) (m′ : Mode) → scan tables-1 src at m ≡ Found x m′ → Small x
+  small at m x m′ e =
+      let s : Step src at x = scan-found tables-1 src at m x m′ e in
+      let k : x .kind ≤ 82 = leb-true (x .kind) 82 (and-second (leb 1 (x .kind)) (leb (x .kind) 82) (scan-kind (between 1 82) tables-1 kinds-1 refl refl src at m x m′ e)) in
+      record { kind = omega arith; start = omega (arith, s .starts, s .longer, s .within, h .limit); end = omega (arith, s .within, h .limit) }
+
+  pub count-fits : length (rest src r) ≤ source-limit
+  count-fits = omega (arith, h .limit, tile-count (r .place .0) (length src) (rest src r) (list-tiles tables-1 src (r .place .0) (r .mode) (h .inside)))
+
+  pub lines-fit : length (lines (rest src r)) ≤ 15 * source-limit
+  unfolding list-from
+  lines-fit = omega (arith, lines-short (rest src r) (first-all tables-1 src Small small (length src) (r .place .0) (r .mode)), count-fits)
+
+  -- 983,038 bytes are room for every listing
+  pub text-fits : length (text (rest src r)) ≤ 983038
+  text-fits =
+      let n = length (rest src r) in
+      omega (arith, length-text (rest src r), length-head n, decimal-short 4 n (omega (arith, count-fits)), lines-fit)

@@ -1,0 +1,174 @@
+// The listing of a source, as document 01 shows it, written into a lent buffer. What its text is stands in specs/.
+ghost use Prim.Native.Nat.{_+_, _≤_, _<_};
+ghost use mathlib.Core.Path.{_≡_};
+ghost use mathlib.Core.List.{[], _∷_};
+ghost use lib.ListN.{length};
+ghost use Rattle.listing_text.specs.Listing.{decimal, field, line, lines, head, text};
+ghost use Rattle.listing_text.specs.Listed.{outcome, written, listed};
+ghost use Rattle.listing_text.specs.Put.{Wrote};
+ghost use Rattle.listing_text.specs.Rest.{Sound, rest};
+ghost use Rattle.listing_text.specs.Turns.{Sized};
+use refusals::Refusal;
+use scanner::Opened;
+use scanner::Reader;
+use scanner::Scan;
+use tokens::Token;
+
+// What listing answers: how many bytes the text has that stands at the front of what was lent; or a refusal.
+pub enum Listed {
+    Written(usize),
+    Refused(Refusal),
+}
+
+// Writes the listing of a source at the front of `out`. The bytes behind it stay as they were; on a refusal all of them do.
+pub fn list(src: &[u8], out: &mut [u8]) -> Listed
+    ensures { λ r. ⌜ outcome r (now (out .exit)) ≡ listed (now (src .entry)) (now (out .entry)) ⌝ }
+{
+    match Reader::open(src) {
+        Opened::Ready(start) => list_from(src, start, out),
+        Opened::Refused(refusal) => Listed::Refused(refusal),
+    }
+}
+
+// The listing of the tokens from a reader on. It is measured before anything is written.
+fn list_from(src: &[u8], start: Reader, out: &mut [u8]) -> Listed
+    requires { ⌜ Sound (now src) start ⌝ }
+    ensures { λ r. ⌜ outcome r (now (out .exit)) ≡ written (text (rest (now (src .entry)) start)) (now (out .entry)) ⌝ }
+{
+    let size = measure(src, start);
+    if out.len() < size.bytes {
+        return Listed::Refused(Refusal::NoRoom);
+    }
+    let behind = put_head(out, 0, size.tokens);
+    Listed::Written(put_lines(out, behind, src, start))
+}
+
+// How many tokens there are, and how many bytes their listing has.
+struct Size {
+    tokens: u32,
+    bytes: usize,
+}
+
+// The first pass over the tokens from a reader on: it counts.
+fn measure(src: &[u8], start: Reader) -> Size
+    requires { ⌜ Sound (now src) start ⌝ }
+    ensures { λ r. ⌜ Sized (rest (now (src .entry)) start) (r .tokens) (r .bytes) ⌝ }
+{
+    let mut tokens: u32 = 0;
+    let mut bytes: usize = 0;
+    let mut reader = start;
+    loop {
+        let Scan::Found(token, next) = reader.scan(src) else {
+            return Size {
+                tokens,
+                bytes: head_len(tokens) + bytes,
+            };
+        };
+        tokens += 1;
+        bytes += line_len(token);
+        reader = next;
+    }
+}
+
+// Each function `put_..` writes at a place of `out` where there is room, changes nothing else, and answers the place behind.
+
+// The second pass over the tokens from a reader on: their lines.
+fn put_lines(out: &mut [u8], at: usize, src: &[u8], start: Reader) -> usize
+    requires { ⌜ Sound (now src) start ⌝ }
+    requires { ⌜ at + length (lines (rest (now src) start)) ≤ length (now out) ⌝ }
+    ensures { λ r. ⌜ Wrote at (lines (rest (now (src .entry)) start)) (now (out .entry)) (now (out .exit)) r ⌝ }
+{
+    let mut behind = at;
+    let mut reader = start;
+    loop {
+        let Scan::Found(token, next) = reader.scan(src) else {
+            return behind;
+        };
+        behind = put_line(out, behind, token);
+        reader = next;
+    }
+}
+
+// A token's line.
+fn put_line(out: &mut [u8], at: usize, token: Token) -> usize
+    requires { ⌜ at + length (line token) ≤ length (now out) ⌝ }
+    ensures { λ r. ⌜ Wrote at (line token) (now (out .entry)) (now (out .exit)) r ⌝ }
+{
+    let start_at = put_field(out, at, token.kind, b' ');
+    let end_at = put_field(out, start_at, token.start.0, b' ');
+    put_field(out, end_at, token.end.0, b'\n')
+}
+
+// The first line: `tokens` and how many.
+fn put_head(out: &mut [u8], at: usize, n: u32) -> usize
+    requires { ⌜ at + length (head n) ≤ length (now out) ⌝ }
+    ensures { λ r. ⌜ Wrote at (head n) (now (out .entry)) (now (out .exit)) r ⌝ }
+{
+    let n_at = put_bytes(out, at, b"tokens ");
+    put_field(out, n_at, n, b'\n')
+}
+
+// A number, and the byte behind it.
+fn put_field(out: &mut [u8], at: usize, n: u32, b: u8) -> usize
+    requires { ⌜ at + length (decimal n) < length (now out) ⌝ }
+    ensures { λ r. ⌜ Wrote at (field n b) (now (out .entry)) (now (out .exit)) r ⌝ }
+{
+    let behind = put_number(out, at, n);
+    put_byte(out, behind, b)
+}
+
+// The digits of a number: those of its tenth part, and then the last one.
+fn put_number(out: &mut [u8], at: usize, n: u32) -> usize
+    requires { ⌜ at + length (decimal n) ≤ length (now out) ⌝ }
+    ensures { λ r. ⌜ Wrote at (decimal n) (now (out .entry)) (now (out .exit)) r ⌝ }
+{
+    if n < 10 {
+        put_byte(out, at, b'0' + n as u8)
+    } else {
+        let last = put_number(out, at, n / 10);
+        put_byte(out, last, b'0' + (n % 10) as u8)
+    }
+}
+
+// A text, byte by byte.
+fn put_bytes(out: &mut [u8], at: usize, bytes: &[u8]) -> usize
+    requires { ⌜ at + length (now bytes) ≤ length (now out) ⌝ }
+    ensures { λ r. ⌜ Wrote at (now (bytes .entry)) (now (out .entry)) (now (out .exit)) r ⌝ }
+{
+    let mut i = 0;
+    while i < bytes.len() {
+        out[at + i] = bytes[i];
+        i += 1;
+    }
+    at + i
+}
+
+// One byte.
+fn put_byte(out: &mut [u8], at: usize, b: u8) -> usize
+    requires { ⌜ at < length (now out) ⌝ }
+    ensures { λ r. ⌜ Wrote at (b ∷ []) (now (out .entry)) (now (out .exit)) r ⌝ }
+{
+    out[at] = b;
+    at + 1
+}
+
+// How many bytes a token's line has.
+fn line_len(token: Token) -> usize
+    ensures { λ r. ⌜ r ≡ length (line token) ⌝ }
+{
+    number_len(token.kind) + number_len(token.start.0) + number_len(token.end.0) + 3
+}
+
+// How many bytes the first line has.
+fn head_len(n: u32) -> usize
+    ensures { λ r. ⌜ (r ≡ length (head n)) × (r ≤ 18) ⌝ }
+{
+    number_len(n) + 8
+}
+
+// How many digits a number has: ten at most.
+fn number_len(n: u32) -> usize
+    ensures { λ r. ⌜ (r ≡ length (decimal n)) × (r ≤ 10) ⌝ }
+{
+    if n < 10 { 1 } else { number_len(n / 10) + 1 }
+}
