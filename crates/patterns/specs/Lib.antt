@@ -9,3 +9,4 @@ pub mod Longest
 pub mod Walk
 pub mod Agree
 pub mod Apart
+pub mod Determined
