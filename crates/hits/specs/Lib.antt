@@ -3,3 +3,4 @@ pub mod Better
 pub mod First
 pub mod Families
 pub mod Words
+pub mod Marks

@@ -8,7 +8,6 @@ use native.Mathlib.Omega.{arith}
 use lib.ListN.{length}
 use lib.Dec.{leb}
 use borrow.Author.Tests.{leb-true, le-leb, lt-leb}
-use Rattle.refusals.specs.declared.Refusal.{Refusal}
 use Rattle.refusals.specs.declared.Refusal.the-variants.{SourceTooLong, NoRoom}
 use Rattle.tokens.specs.declared.Mode.the-variants.{Normal}
 use Rattle.tokens.specs.declared.Token.{Token}

@@ -25,7 +25,9 @@ longer-requires : tie.Need-longer-requires
 longer-requires c κs = search needs
 
 returns : tie.Need-returns
-returns c = of-both (c .before .before .before .before .before .before .args .src .now) (c .before .before .before .before .before .before .args .at) (rule COMMENT (block-comment char) ∷ []) (rule COMMENT line-comment ∷ []) (c .longer .ensures) (of-rule (c .before .before .before .before .before .before .args .src .now) (c .before .before .before .before .before .before .args .at) COMMENT (block-comment char) (c .before .before .before .one .ensures) (c .before .before .before .before .block-comment-of-chars .ensures)) (of-rule (c .before .before .before .before .before .before .args .src .now) (c .before .before .before .before .before .before .args .at) COMMENT line-comment (c .before .one2 .ensures) (c .before .before .line-comment .ensures))
+returns c =
+    let a = c .before .before .before .before .before .before .args in
+    of-both (a .src .now) (a .at) (rule COMMENT (block-comment char) ∷ []) (rule COMMENT line-comment ∷ []) (c .longer .ensures) (of-rule (a .src .now) (a .at) COMMENT (block-comment char) (c .before .before .before .one .ensures) (c .before .before .before .before .block-comment-of-chars .ensures)) (of-rule (a .src .now) (a .at) COMMENT line-comment (c .before .one2 .ensures) (c .before .before .line-comment .ensures))
 
 pub commented-spec : {M : Type 1} → statement M
 commented-spec =

@@ -18,7 +18,9 @@ here : (c : tie.Else1) → Here (c .before .before .args .src .now) (c .before .
 here c = record { inside = c .if1 .left; small = omega (arith, c .before .shared-slice-known .given (c .before .before .args .at)) }
 
 returns : tie.Need-returns
-returns c = past-end (c .before .before .args .src .now) (c .before .before .args .at) (rules tables-1 HexJump) (c .if1 .taken)
+returns c =
+    let a = c .before .before .args in
+    past-end (a .src .now) (a .at) (rules tables-1 HexJump) (c .if1 .taken)
 
 shared-slice-read-b : tie.Need-shared-slice-read-b
 shared-slice-read-b c = search needs
@@ -42,7 +44,9 @@ one-requires : tie.Need-one-requires
 one-requires c κs = search needs
 
 returns-3 : tie.Need-returns-3
-returns-3 c = of-rule (c .before .before .before .before .before .before .before .before .before .args .src .now) (c .before .before .before .before .before .before .before .before .before .args .at) INTEGER-LIT jump-integer (c .one .ensures) (c .before .jump-integer .ensures) ∙ at-jump-integer (here (c .before .before .before .before .before .before .before)) (sym (c .before .before .before .before .before .is-spacing .ensures) ∙ c .before .before .before .before .if2 .left) (sym (c .before .before .before .is-dec .ensures) ∙ c .before .before .if3 .taken)
+returns-3 c =
+    let a = c .before .before .before .before .before .before .before .before .before .args in
+    of-rule (a .src .now) (a .at) INTEGER-LIT jump-integer (c .one .ensures) (c .before .jump-integer .ensures) ∙ at-jump-integer (here (c .before .before .before .before .before .before .before)) (sym (c .before .before .before .before .before .is-spacing .ensures) ∙ c .before .before .before .before .if2 .left) (sym (c .before .before .before .is-dec .ensures) ∙ c .before .before .if3 .taken)
 
 jump-operator-requires : tie.Need-jump-operator-requires
 jump-operator-requires c κs = search needs

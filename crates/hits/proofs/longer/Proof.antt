@@ -10,10 +10,14 @@ returns : tie.Need-returns
 returns c = sym (better-none (c .before .args .first) (c .before .args .other) (c .if1 .taken))
 
 returns-2 : tie.Need-returns-2
-returns-2 c = sym (better-longer (c .before .before .args .first) (c .before .before .args .other) (c .if2 .taken))
+returns-2 c =
+    let a = c .before .before .args in
+    sym (better-longer (a .first) (a .other) (c .if2 .taken))
 
 returns-3 : tie.Need-returns-3
-returns-3 c = sym (better-first (c .before .before .args .first) (c .before .before .args .other) (omega arith) (omega arith))
+returns-3 c =
+    let a = c .before .before .args in
+    sym (better-first (a .first) (a .other) (omega arith) (omega arith))
 
 pub longer-spec : {M : Type 1} → statement M
 longer-spec = tie.close (tie.spec returns returns-2 returns-3)

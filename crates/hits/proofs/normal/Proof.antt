@@ -1,20 +1,17 @@
 -- By the first byte one family of rules is left (Families.antt), and that family's hit is the answer.
 -- Assumes nothing.
-use Prim.Native.Nat.{ℕ}
-use mathlib.Core.Path.{_≡_, refl, sym, _∙_}
+use mathlib.Core.Path.{refl, sym, _∙_}
 use native.Mathlib.Omega.{arith}
-use mathlib.Core.Bool.{true}
 use mathlib.Core.List.{[], _∷_, map}
-use borrow.Author.Tests.{eq-eqb}
 use Rattle.tokens.specs.declared.Mode.the-variants.{Normal}
 use Rattle.tokens.specs.Kinds.{PATTERN-IDENT, PATTERN-COUNT, PATTERN-OFFSET, PATTERN-LENGTH}
 use Rattle.tokens.specs.Unicode.{digits-16}
-use Rattle.tokens.specs.Tokens.{ascii, rule, spelled, tables-1, operators, one-of, pattern-word}
+use Rattle.tokens.specs.Tokens.{rule, spelled, tables-1, operators, pattern-word}
 use Rattle.tokens.specs.Scan.{rules}
 use Rattle.hits.specs.First.{first-kinds, Here}
-use Rattle.hits.specs.Better.{of-rule, of-both, past-end}
+use Rattle.hits.specs.Better.{of-both, past-end}
 use Rattle.hits.specs.Families.{quote-rules, slash-rules, bang-rules, exact, at-spacing, at-word, at-number, at-operator}
-use Rattle.hits.specs.Words.{tail-after}
+use Rattle.hits.specs.Marks.{pattern-hit}
 use borrow.Author.Needs.{needs}
 use Rattle.hits.proofs.normal.Statement.{statement}
 use Rattle.hits.proofs.normal.Tie as tie
@@ -23,12 +20,10 @@ use Rattle.hits.proofs.normal.Tie as tie
 here : (c : tie.Else1) → Here (c .before .before .args .src .now) (c .before .before .args .at)
 here c = record { inside = c .if1 .left; small = omega (arith, c .before .shared-slice-known .given (c .before .before .args .at)) }
 
--- the byte of a mark is in its class
-marked : (b : ℕ) {x : ℕ} → x ≡ b → one-of (b ∷ []) x ≡ true
-marked b {x} e = simp (eq-eqb x b e)
-
 returns : tie.Need-returns
-returns c = past-end (c .before .before .args .src .now) (c .before .before .args .at) (rules tables-1 Normal) (c .if1 .taken)
+returns c =
+    let a = c .before .before .args in
+    past-end (a .src .now) (a .at) (rules tables-1 Normal) (c .if1 .taken)
 
 shared-slice-read-b : tie.Need-shared-slice-read-b
 shared-slice-read-b c = search needs
@@ -85,7 +80,10 @@ one-requires c κs = search needs
 
 returns-7 : tie.Need-returns-7
 unfolding first-kinds rules
-returns-7 c = of-rule (c .before .before .before .before .before .before .before .before .before .before .before .before .before .before .args .src .now) (c .before .before .before .before .before .before .before .before .before .before .before .before .before .before .args .at) PATTERN-IDENT (pattern-word "$" digits-16) (c .one .ensures) (tail-after (one-of (ascii "$")) digits-16 (c .before .before .before .before .before .before .before .before .before .before .before .before .before .before .args .src .now) (c .before .before .before .before .before .before .before .before .before .before .before .before .before .before .args .at) (c .before .word-tail .result) ((here (c .before .before .before .before .before .before .before .before .before .before .before .before)) .inside) (marked 36 (c .before .before .if7 .taken)) (c .before .word-tail .ensures)) ∙ exact (here (c .before .before .before .before .before .before .before .before .before .before .before .before)) Normal 36 (rule PATTERN-IDENT (pattern-word "$" digits-16) ∷ []) refl (c .before .before .if7 .taken)
+returns-7 c =
+    let p = here (c .before .before .before .before .before .before .before .before .before .before .before .before) in
+    pattern-hit p PATTERN-IDENT 36 "$" refl (c .before .before .if7 .taken) (c .one .ensures) (c .before .word-tail .ensures)
+    ∙ exact p Normal 36 (rule PATTERN-IDENT (pattern-word "$" digits-16) ∷ []) refl (c .before .before .if7 .taken)
 
 add-word-tail-2 : tie.Need-add-word-tail-2
 add-word-tail-2 c = search needs
@@ -98,7 +96,10 @@ one-requires-2 c κs = search needs
 
 returns-8 : tie.Need-returns-8
 unfolding first-kinds rules
-returns-8 c = of-rule (c .before .before .before .before .before .before .before .before .before .before .before .before .before .before .before .args .src .now) (c .before .before .before .before .before .before .before .before .before .before .before .before .before .before .before .args .at) PATTERN-COUNT (pattern-word "#" digits-16) (c .one2 .ensures) (tail-after (one-of (ascii "#")) digits-16 (c .before .before .before .before .before .before .before .before .before .before .before .before .before .before .before .args .src .now) (c .before .before .before .before .before .before .before .before .before .before .before .before .before .before .before .args .at) (c .before .word-tail2 .result) ((here (c .before .before .before .before .before .before .before .before .before .before .before .before .before)) .inside) (marked 35 (c .before .before .if8 .taken)) (c .before .word-tail2 .ensures)) ∙ exact (here (c .before .before .before .before .before .before .before .before .before .before .before .before .before)) Normal 35 (rule PATTERN-COUNT (pattern-word "#" digits-16) ∷ []) refl (c .before .before .if8 .taken)
+returns-8 c =
+    let p = here (c .before .before .before .before .before .before .before .before .before .before .before .before .before) in
+    pattern-hit p PATTERN-COUNT 35 "#" refl (c .before .before .if8 .taken) (c .one2 .ensures) (c .before .word-tail2 .ensures)
+    ∙ exact p Normal 35 (rule PATTERN-COUNT (pattern-word "#" digits-16) ∷ []) refl (c .before .before .if8 .taken)
 
 add-word-tail-3 : tie.Need-add-word-tail-3
 add-word-tail-3 c = search needs
@@ -111,7 +112,10 @@ one-requires-3 c κs = search needs
 
 returns-9 : tie.Need-returns-9
 unfolding first-kinds rules
-returns-9 c = of-rule (c .before .before .before .before .before .before .before .before .before .before .before .before .before .before .before .before .args .src .now) (c .before .before .before .before .before .before .before .before .before .before .before .before .before .before .before .before .args .at) PATTERN-OFFSET (pattern-word "@" digits-16) (c .one3 .ensures) (tail-after (one-of (ascii "@")) digits-16 (c .before .before .before .before .before .before .before .before .before .before .before .before .before .before .before .before .args .src .now) (c .before .before .before .before .before .before .before .before .before .before .before .before .before .before .before .before .args .at) (c .before .word-tail3 .result) ((here (c .before .before .before .before .before .before .before .before .before .before .before .before .before .before)) .inside) (marked 64 (c .before .before .if9 .taken)) (c .before .word-tail3 .ensures)) ∙ exact (here (c .before .before .before .before .before .before .before .before .before .before .before .before .before .before)) Normal 64 (rule PATTERN-OFFSET (pattern-word "@" digits-16) ∷ []) refl (c .before .before .if9 .taken)
+returns-9 c =
+    let p = here (c .before .before .before .before .before .before .before .before .before .before .before .before .before .before) in
+    pattern-hit p PATTERN-OFFSET 64 "@" refl (c .before .before .if9 .taken) (c .one3 .ensures) (c .before .word-tail3 .ensures)
+    ∙ exact p Normal 64 (rule PATTERN-OFFSET (pattern-word "@" digits-16) ∷ []) refl (c .before .before .if9 .taken)
 
 add-word-tail-4 : tie.Need-add-word-tail-4
 add-word-tail-4 c = search needs
@@ -130,13 +134,24 @@ longer-requires c κs = search needs
 
 returns-10 : tie.Need-returns-10
 unfolding first-kinds rules
-returns-10 c = of-both (c .before .before .before .before .before .before .before .before .before .before .before .before .before .before .before .before .before .before .before .args .src .now) (c .before .before .before .before .before .before .before .before .before .before .before .before .before .before .before .before .before .before .before .args .at) (map spelled operators) (rule PATTERN-LENGTH (pattern-word "!" digits-16) ∷ []) (c .longer .ensures) (c .before .operator .ensures) (of-rule (c .before .before .before .before .before .before .before .before .before .before .before .before .before .before .before .before .before .before .before .args .src .now) (c .before .before .before .before .before .before .before .before .before .before .before .before .before .before .before .before .before .before .before .args .at) PATTERN-LENGTH (pattern-word "!" digits-16) (c .before .before .one4 .ensures) (tail-after (one-of (ascii "!")) digits-16 (c .before .before .before .before .before .before .before .before .before .before .before .before .before .before .before .before .before .before .before .args .src .now) (c .before .before .before .before .before .before .before .before .before .before .before .before .before .before .before .before .before .before .before .args .at) (c .before .before .before .word-tail4 .result) ((here (c .before .before .before .before .before .before .before .before .before .before .before .before .before .before .before .before .before)) .inside) (marked 33 (c .before .before .before .before .if10 .taken)) (c .before .before .before .word-tail4 .ensures))) ∙ exact (here (c .before .before .before .before .before .before .before .before .before .before .before .before .before .before .before .before .before)) Normal 33 bang-rules refl (c .before .before .before .before .if10 .taken)
+returns-10 c =
+    let a = c .before .before .before .before .before .before .before .before .before .before .before .before .before .before .before .before .before .before .before .args in
+    let p = here (c .before .before .before .before .before .before .before .before .before .before .before .before .before .before .before .before .before) in
+    of-both (a .src .now) (a .at) (map spelled operators) (rule PATTERN-LENGTH (pattern-word "!" digits-16) ∷ []) (c .longer .ensures) (c .before .operator .ensures)
+    (pattern-hit p PATTERN-LENGTH 33 "!" refl (c .before .before .before .before .if10 .taken) (c .before .before .one4 .ensures) (c .before .before .before .word-tail4 .ensures))
+    ∙ exact p Normal 33 bang-rules refl (c .before .before .before .before .if10 .taken)
 
 operator-requires-2 : tie.Need-operator-requires-2
 operator-requires-2 c κs = search needs
 
 returns-11 : tie.Need-returns-11
-returns-11 c = c .operator2 .ensures ∙ at-operator (here (c .before .before .before .before .before .before .before .before .before .before .before .before .before .before)) (sym (c .before .before .before .before .before .before .before .before .before .before .before .before .is-spacing .ensures) ∙ c .before .before .before .before .before .before .before .before .before .before .before .if2 .left) (sym (c .before .before .before .before .before .before .before .before .before .before .is-word-start .ensures) ∙ c .before .before .before .before .before .before .before .before .before .if3 .left) (sym (c .before .before .before .before .before .before .before .before .is-dec .ensures) ∙ c .before .before .before .before .before .before .before .if4 .left) (c .before .before .before .before .before .before .if5 .left) (c .before .before .before .before .before .if6 .left) (c .before .before .before .before .if7 .left) (c .before .before .before .if8 .left) (c .before .before .if9 .left) (c .before .if10 .left)
+returns-11 c =
+    c .operator2 .ensures
+    ∙ at-operator (here (c .before .before .before .before .before .before .before .before .before .before .before .before .before .before))
+    (sym (c .before .before .before .before .before .before .before .before .before .before .before .before .is-spacing .ensures) ∙ c .before .before .before .before .before .before .before .before .before .before .before .if2 .left)
+    (sym (c .before .before .before .before .before .before .before .before .before .before .is-word-start .ensures) ∙ c .before .before .before .before .before .before .before .before .before .if3 .left)
+    (sym (c .before .before .before .before .before .before .before .before .is-dec .ensures) ∙ c .before .before .before .before .before .before .before .if4 .left)
+    (c .before .before .before .before .before .before .if5 .left) (c .before .before .before .before .before .if6 .left) (c .before .before .before .before .if7 .left) (c .before .before .before .if8 .left) (c .before .before .if9 .left) (c .before .if10 .left)
 
 pub normal-spec : {M : Type 1} → statement M
 normal-spec =

@@ -21,7 +21,9 @@ longer-requires : tie.Need-longer-requires
 longer-requires c κs = search needs
 
 returns : tie.Need-returns
-returns c = of-both (c .before .before .before .before .before .args .src .now) (c .before .before .before .before .before .args .at) (rule FLOAT-LIT float ∷ []) (rule INTEGER-LIT integer ∷ []) (c .longer .ensures) (of-rule (c .before .before .before .before .before .args .src .now) (c .before .before .before .before .before .args .at) FLOAT-LIT float (c .before .before .one .ensures) (c .before .before .before .number .ensures .1)) (of-rule (c .before .before .before .before .before .args .src .now) (c .before .before .before .before .before .args .at) INTEGER-LIT integer (c .before .one2 .ensures) (c .before .before .before .number .ensures .0))
+returns c =
+    let a = c .before .before .before .before .before .args in
+    of-both (a .src .now) (a .at) (rule FLOAT-LIT float ∷ []) (rule INTEGER-LIT integer ∷ []) (c .longer .ensures) (of-rule (a .src .now) (a .at) FLOAT-LIT float (c .before .before .one .ensures) (c .before .before .before .number .ensures .1)) (of-rule (a .src .now) (a .at) INTEGER-LIT integer (c .before .one2 .ensures) (c .before .before .before .number .ensures .0))
 
 pub number-spec : {M : Type 1} → statement M
 number-spec =

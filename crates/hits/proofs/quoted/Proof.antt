@@ -24,7 +24,9 @@ longer-requires : tie.Need-longer-requires
 longer-requires c κs = search needs
 
 returns : tie.Need-returns
-returns c = of-both (c .before .before .before .before .before .before .args .src .now) (c .before .before .before .before .before .before .args .at) (rule STRING-LIT string ∷ []) (rule STRING-LIT multi-line-string ∷ []) (c .longer .ensures) (of-rule (c .before .before .before .before .before .before .args .src .now) (c .before .before .before .before .before .before .args .at) STRING-LIT string (c .before .before .before .one .ensures) (c .before .before .before .before .string .ensures)) (of-rule (c .before .before .before .before .before .before .args .src .now) (c .before .before .before .before .before .before .args .at) STRING-LIT multi-line-string (c .before .one2 .ensures) (c .before .before .multi-line-string .ensures))
+returns c =
+    let a = c .before .before .before .before .before .before .args in
+    of-both (a .src .now) (a .at) (rule STRING-LIT string ∷ []) (rule STRING-LIT multi-line-string ∷ []) (c .longer .ensures) (of-rule (a .src .now) (a .at) STRING-LIT string (c .before .before .before .one .ensures) (c .before .before .before .before .string .ensures)) (of-rule (a .src .now) (a .at) STRING-LIT multi-line-string (c .before .one2 .ensures) (c .before .before .multi-line-string .ensures))
 
 pub quoted-spec : {M : Type 1} → statement M
 quoted-spec =

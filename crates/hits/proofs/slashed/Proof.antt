@@ -34,7 +34,9 @@ longer-requires-2 : tie.Need-longer-requires-2
 longer-requires-2 c κs = search needs
 
 returns : tie.Need-returns
-returns c = of-both (c .before .before .before .before .before .before .before .before .before .args .src .now) (c .before .before .before .before .before .before .before .before .before .args .at) (rule REGEXP regexp ∷ []) (rule COMMENT (block-comment byte) ∷ rule COMMENT line-comment ∷ []) (c .longer2 .ensures) (of-rule (c .before .before .before .before .before .before .before .before .before .args .src .now) (c .before .before .before .before .before .before .before .before .before .args .at) REGEXP regexp (c .before .before .before .before .before .before .one .ensures) (c .before .before .before .before .before .before .before .regexp .ensures)) (of-both (c .before .before .before .before .before .before .before .before .before .args .src .now) (c .before .before .before .before .before .before .before .before .before .args .at) (rule COMMENT (block-comment byte) ∷ []) (rule COMMENT line-comment ∷ []) (c .before .longer .ensures) (of-rule (c .before .before .before .before .before .before .before .before .before .args .src .now) (c .before .before .before .before .before .before .before .before .before .args .at) COMMENT (block-comment byte) (c .before .before .before .before .one2 .ensures) (c .before .before .before .before .before .block-comment .ensures)) (of-rule (c .before .before .before .before .before .before .before .before .before .args .src .now) (c .before .before .before .before .before .before .before .before .before .args .at) COMMENT line-comment (c .before .before .one3 .ensures) (c .before .before .before .line-comment .ensures)))
+returns c =
+    let a = c .before .before .before .before .before .before .before .before .before .args in
+    of-both (a .src .now) (a .at) (rule REGEXP regexp ∷ []) (rule COMMENT (block-comment byte) ∷ rule COMMENT line-comment ∷ []) (c .longer2 .ensures) (of-rule (a .src .now) (a .at) REGEXP regexp (c .before .before .before .before .before .before .one .ensures) (c .before .before .before .before .before .before .before .regexp .ensures)) (of-both (a .src .now) (a .at) (rule COMMENT (block-comment byte) ∷ []) (rule COMMENT line-comment ∷ []) (c .before .longer .ensures) (of-rule (a .src .now) (a .at) COMMENT (block-comment byte) (c .before .before .before .before .one2 .ensures) (c .before .before .before .before .before .block-comment .ensures)) (of-rule (a .src .now) (a .at) COMMENT line-comment (c .before .before .one3 .ensures) (c .before .before .before .line-comment .ensures)))
 
 pub slashed-spec : {M : Type 1} → statement M
 slashed-spec =

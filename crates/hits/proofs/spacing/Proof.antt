@@ -21,7 +21,9 @@ longer-requires : tie.Need-longer-requires
 longer-requires c κs = search needs
 
 returns : tie.Need-returns
-returns c = of-both (c .before .before .before .before .before .args .src .now) (c .before .before .before .before .before .args .at) (rule WHITESPACE blanks ∷ []) (map spelled newlines) (c .longer .ensures) (of-rule (c .before .before .before .before .before .args .src .now) (c .before .before .before .before .before .args .at) WHITESPACE blanks (c .before .before .one .ensures) (c .before .before .before .blanks .ensures)) (c .before .newline .ensures)
+returns c =
+    let a = c .before .before .before .before .before .args in
+    of-both (a .src .now) (a .at) (rule WHITESPACE blanks ∷ []) (map spelled newlines) (c .longer .ensures) (of-rule (a .src .now) (a .at) WHITESPACE blanks (c .before .before .one .ensures) (c .before .before .before .blanks .ensures)) (c .before .newline .ensures)
 
 pub spacing-spec : {M : Type 1} → statement M
 spacing-spec =

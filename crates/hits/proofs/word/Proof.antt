@@ -18,7 +18,9 @@ part-word-start : tie.Need-part-word-start
 part-word-start c = search needs
 
 part-word-end : tie.Need-part-word-end
-part-word-end c = tail-within (c .before .before .args .src .now) (c .before .before .args .at) (c .word-tail .result) (c .before .before .pre .0) (c .word-tail .ensures)
+part-word-end c =
+    let a = c .before .before .args in
+    tail-within (a .src .now) (a .at) (c .word-tail .result) (c .before .before .pre .0) (c .word-tail .ensures)
 
 keyword-requires : tie.Need-keyword-requires
 keyword-requires c κs = search needs
@@ -27,7 +29,9 @@ sub-t6 : tie.Need-sub-t6
 sub-t6 c = search needs
 
 returns : tie.Need-returns
-returns c = word-hit (c .before .before .before .before .args .src .now) (c .before .before .before .before .args .at) (c .before .before .word-tail .result) (c .keyword .result) (c .before .before .before .before .pre .0) (c .before .before .before .before .pre .1) (c .before .before .word-tail .ensures) (c .keyword .ensures)
+returns c =
+    let a = c .before .before .before .before .args in
+    word-hit (a .src .now) (a .at) (c .before .before .word-tail .result) (c .keyword .result) (c .before .before .before .before .pre .0) (c .before .before .before .before .pre .1) (c .before .before .word-tail .ensures) (c .keyword .ensures)
 
 pub word-spec : {M : Type 1} → statement M
 word-spec =

@@ -10,11 +10,6 @@ use Rattle.listing_text.specs.Turns.{Measured, measured-start, measured-
 use Rattle.listing_text.proofs.Ends.{none-left}
 use Rattle.listing_text.proofs.measure.Statement.{statement}
 use Rattle.listing_text.proofs.measure.Tie as tie
-use Rattle.listing_text.proofs.measure.Reads as reads
-use Rattle.listing_text.proofs.measure.Lts as lts
-use Rattle.listing_text.proofs.head_len.Reads as head-len-reads
-use Rattle.listing_text.proofs.line_len.Reads as line-len-reads
-use Rattle.scanner.proofs.Reader.scan.Reads as scan-reads
 
 abbrev Inv-loop : tie.InvT-loop
 Inv-loop src tokens₀ bytes₀ reader₀ tokens bytes reader = Sound src reader × Measured (rest src reader₀) tokens bytes (rest src reader)

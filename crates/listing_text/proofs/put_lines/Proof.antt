@@ -9,10 +9,6 @@ use Rattle.listing_text.specs.Turns.{Writing, writing-start, room-line, 
 use Rattle.listing_text.proofs.Ends.{none-left}
 use Rattle.listing_text.proofs.put_lines.Statement.{statement}
 use Rattle.listing_text.proofs.put_lines.Tie as tie
-use Rattle.listing_text.proofs.put_lines.Reads as reads
-use Rattle.listing_text.proofs.put_lines.Lts as lts
-use Rattle.listing_text.proofs.put_line.Reads as put-line-reads
-use Rattle.scanner.proofs.Reader.scan.Reads as scan-reads
 
 abbrev Inv-loop : tie.InvT-loop
 Inv-loop out₀ at src behind₀ reader₀ out behind reader = Sound src reader × Writing (rest src reader₀) at out₀ behind out (rest src reader)

@@ -18,10 +18,14 @@ pattern-requires : tie.Need-pattern-requires
 pattern-requires c κs = search needs
 
 returns : tie.Need-returns
-returns c = c .pattern .ensures ∙ next-tried tables-1 (drop (c .before .before .before .before .before .args .at) (c .before .before .before .before .before .args .src .now)) HexJump (tried HexPattern) (c .before .before .before .jump .ensures) (c .before .if1 .taken)
+returns c =
+    let a = c .before .before .before .before .before .args in
+    c .pattern .ensures ∙ next-tried tables-1 (drop (a .at) (a .src .now)) HexJump (tried HexPattern) (c .before .before .before .jump .ensures) (c .before .if1 .taken)
 
 returns-2 : tie.Need-returns-2
-returns-2 c = hit-taken tables-1 (drop (c .before .before .before .before .args .at) (c .before .before .before .before .args .src .now)) HexJump (tried HexPattern) (c .before .before .jump .ensures) (omega arith)
+returns-2 c =
+    let a = c .before .before .before .before .args in
+    hit-taken tables-1 (drop (a .at) (a .src .now)) HexJump (tried HexPattern) (c .before .before .jump .ensures) (omega arith)
 
 pub jump-spec : {M : Type 1} → statement M
 jump-spec = tie.close (tie.spec jump-requires pattern-requires returns returns-2)

@@ -18,10 +18,14 @@ unmatched-requires : tie.Need-unmatched-requires
 unmatched-requires c κs = search needs
 
 returns : tie.Need-returns
-returns c = c .unmatched .ensures ∙ next-tried tables-1 (drop (c .before .before .before .before .before .args .at) (c .before .before .before .before .before .args .src .now)) Normal [] (c .before .before .before .normal .ensures) (c .before .if1 .taken)
+returns c =
+    let a = c .before .before .before .before .before .args in
+    c .unmatched .ensures ∙ next-tried tables-1 (drop (a .at) (a .src .now)) Normal [] (c .before .before .before .normal .ensures) (c .before .if1 .taken)
 
 returns-2 : tie.Need-returns-2
-returns-2 c = hit-taken tables-1 (drop (c .before .before .before .before .args .at) (c .before .before .before .before .args .src .now)) Normal [] (c .before .before .normal .ensures) (omega arith)
+returns-2 c =
+    let a = c .before .before .before .before .args in
+    hit-taken tables-1 (drop (a .at) (a .src .now)) Normal [] (c .before .before .normal .ensures) (omega arith)
 
 pub normal-spec : {M : Type 1} → statement M
 normal-spec = tie.close (tie.spec normal-requires unmatched-requires returns returns-2)

@@ -18,10 +18,14 @@ normal-requires : tie.Need-normal-requires
 normal-requires c κs = search needs
 
 returns : tie.Need-returns
-returns c = c .normal .ensures ∙ next-tried tables-1 (drop (c .before .before .before .before .before .args .at) (c .before .before .before .before .before .args .src .now)) HexPattern (tried Normal) (c .before .before .before .pattern .ensures) (c .before .if1 .taken)
+returns c =
+    let a = c .before .before .before .before .before .args in
+    c .normal .ensures ∙ next-tried tables-1 (drop (a .at) (a .src .now)) HexPattern (tried Normal) (c .before .before .before .pattern .ensures) (c .before .if1 .taken)
 
 returns-2 : tie.Need-returns-2
-returns-2 c = hit-taken tables-1 (drop (c .before .before .before .before .args .at) (c .before .before .before .before .args .src .now)) HexPattern (tried Normal) (c .before .before .pattern .ensures) (omega arith)
+returns-2 c =
+    let a = c .before .before .before .before .args in
+    hit-taken tables-1 (drop (a .at) (a .src .now)) HexPattern (tried Normal) (c .before .before .pattern .ensures) (omega arith)
 
 pub pattern-spec : {M : Type 1} → statement M
 pattern-spec = tie.close (tie.spec pattern-requires normal-requires returns returns-2)

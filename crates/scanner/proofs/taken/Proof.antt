@@ -28,13 +28,19 @@ jump-requires : tie.Need-jump-requires
 jump-requires c κs = search needs
 
 returns : tie.Need-returns
-returns c = c .normal .ensures ∙ ap (λ (m : Mode). choose tables-1 (tried m) (drop (c .before .before .before .before .args .at) (c .before .before .before .before .args .src .now))) (sym (c .before .enum-told .given .1))
+returns c =
+    let a = c .before .before .before .before .args in
+    c .normal .ensures ∙ ap (λ (m : Mode). choose tables-1 (tried m) (drop (a .at) (a .src .now))) (sym (c .before .enum-told .given .1))
 
 returns-2 : tie.Need-returns-2
-returns-2 c = c .pattern .ensures ∙ ap (λ (m : Mode). choose tables-1 (tried m) (drop (c .before .before .before .before .args .at) (c .before .before .before .before .args .src .now))) (sym (c .before .enum-told2 .given .1))
+returns-2 c =
+    let a = c .before .before .before .before .args in
+    c .pattern .ensures ∙ ap (λ (m : Mode). choose tables-1 (tried m) (drop (a .at) (a .src .now))) (sym (c .before .enum-told2 .given .1))
 
 returns-3 : tie.Need-returns-3
-returns-3 c = c .jump .ensures ∙ ap (λ (m : Mode). choose tables-1 (tried m) (drop (c .before .before .before .before .args .at) (c .before .before .before .before .args .src .now))) (sym (c .before .enum-told3 .given .1))
+returns-3 c =
+    let a = c .before .before .before .before .args in
+    c .jump .ensures ∙ ap (λ (m : Mode). choose tables-1 (tried m) (drop (a .at) (a .src .now))) (sym (c .before .enum-told3 .given .1))
 
 pub taken-spec : {M : Type 1} → statement M
 taken-spec =

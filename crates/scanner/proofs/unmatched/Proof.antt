@@ -21,10 +21,14 @@ unknown-requires : tie.Need-unknown-requires
 unknown-requires c κs = search needs
 
 returns : tie.Need-returns
-returns c = broken-byte tables-1 (drop (c .before .before .before .before .args .at) (c .before .before .before .before .args .src .now)) (sym (c .before .before .decode-at .ensures) ∙ c .enum-told .given .1)
+returns c =
+    let a = c .before .before .before .before .args in
+    broken-byte tables-1 (drop (a .at) (a .src .now)) (sym (c .before .before .decode-at .ensures) ∙ c .enum-told .given .1)
 
 returns-2 : tie.Need-returns-2
-returns-2 c = c .unknown .ensures ∙ unknown-text tables-1 (drop (c .before .before .before .before .before .args .at) (c .before .before .before .before .before .args .src .now)) _ _ (sym (c .before .before .before .decode-at .ensures) ∙ c .before .enum-told2 .given .1)
+returns-2 c =
+    let a = c .before .before .before .before .before .args in
+    c .unknown .ensures ∙ unknown-text tables-1 (drop (a .at) (a .src .now)) _ _ (sym (c .before .before .before .decode-at .ensures) ∙ c .before .enum-told2 .given .1)
 
 pub unmatched-spec : {M : Type 1} → statement M
 unmatched-spec =

@@ -16,16 +16,22 @@ inside c =
     choice-within tables-1 (c .before .before .before .before .before .before .before .before .args .src .now) (c .before .before .before .before .before .before .before .before .args .self .place .0) (c .before .before .before .before .before .before .before .before .args .self .mode) (c .before .taken .result) (omega arith) (c .before .taken .ensures)
 
 returns : tie.Need-returns
-returns c = too-long (c .before .before .args .src .now) (c .before .before .args .self) (c .if1 .taken)
+returns c =
+    let a = c .before .before .args in
+    too-long (a .src .now) (a .self) (c .if1 .taken)
 
 cast-at : tie.Need-cast-at
 cast-at c = search needs
 
 returns-2 : tie.Need-returns-2
-returns-2 c = past-source (c .before .before .before .before .before .args .src .now) (c .before .before .before .before .before .args .self) (c .before .before .before .if1 .left) (c .if2 .taken)
+returns-2 c =
+    let a = c .before .before .before .before .before .args in
+    past-source (a .src .now) (a .self) (c .before .before .before .if1 .left) (c .if2 .taken)
 
 returns-3 : tie.Need-returns-3
-returns-3 c = at-end (c .before .before .before .before .before .before .args .src .now) (c .before .before .before .before .before .before .args .self) (omega arith) (c .if3 .taken)
+returns-3 c =
+    let a = c .before .before .before .before .before .before .args in
+    at-end (a .src .now) (a .self) (omega arith) (c .if3 .taken)
 
 taken-requires : tie.Need-taken-requires
 taken-requires c κs = search needs
@@ -37,7 +43,9 @@ cast-t13 : tie.Need-cast-t13
 cast-t13 c = omega (arith, inside c)
 
 returns-4 : tie.Need-returns-4
-returns-4 c = token-found (c .before .before .before .before .before .before .before .before .args .src .now) (c .before .before .before .before .before .before .before .before .args .self) (omega arith) (c .before .taken .result) (omega arith) (c .before .taken .ensures)
+returns-4 c =
+    let a = c .before .before .before .before .before .before .before .before .args in
+    token-found (a .src .now) (a .self) (omega arith) (c .before .taken .result) (omega arith) (c .before .taken .ensures)
 
 pub scan-spec : {M : Type 1} → statement M
 scan-spec =
