@@ -1,13 +1,15 @@
 -- The cases of what `list` answers, from what opening and the two passes say; how much room is always enough; and that the contract
 -- leaves no choice. Each is one look at the definition's tests. Assumes nothing.
-use Prim.Native.Nat.{ℕ, _≤_, _<_, zero-le}
+use Prim.Native.Nat.{ℕ, _+_, _≤_, _<_, zero-le}
 use mathlib.Core.Path.{_≡_, refl, sym, ap, _∙_}
 use mathlib.Core.Bool.{Bool, true, false, cond}
-use mathlib.Core.List.{List}
+use mathlib.Core.List.{List, _++_}
 use native.Mathlib.Omega.{arith}
-use lib.ListN.{length}
+use lib.ListN.{length, take, drop, length-append}
+use lib.Seq.{take-append-seam}
 use lib.Dec.{leb}
 use borrow.Author.Tests.{leb-true, le-leb, lt-leb}
+use Rattle.refusals.specs.declared.Refusal.{Refusal}
 use Rattle.refusals.specs.declared.Refusal.the-variants.{SourceTooLong, NoRoom}
 use Rattle.tokens.specs.declared.Mode.the-variants.{Normal}
 use Rattle.tokens.specs.declared.Token.{Token}
@@ -45,6 +47,23 @@ module _ {xs : List Token} {count bytes : ℕ} (s : Sized xs count bytes) (out :
       let e : n ≡ length (text xs) = omega (arith, w .behind) in
       rw (le-leb (length (text xs)) (length out) (omega (arith, size)), w .bytes, e)
 
+-- an answer that is no refusal
+not-refused : (t : Bool) (w : Outcome) (r : Refusal) (out : List ℕ) {n : ℕ} {o : List ℕ} → outcome (Written n) o ≡ cond t w (outcome (Refused r) out) → outcome (Written n) o ≡ w
+not-refused true w r out e = e
+not-refused false w r out {n} e =
+    let f : Written n ≡ Refused r = ap (λ (x : Outcome). x .answer) e in
+    let z : _≡_ {A = ℕ} 0 1 = cc in
+    absurd (omega arith)
+
+written-front : (t out : List ℕ) {n : ℕ} {o : List ℕ} → outcome (Written n) o ≡ written t out → (n ≤ length o) × (take n o ≡ t)
+unfolding written
+written-front t out {n} {o} e =
+    let w : outcome (Written n) o ≡ outcome (Written (length t)) (put 0 t out) = not-refused (leb (length t) (length out)) (outcome (Written (length t)) (put 0 t out)) NoRoom out e in
+    let a : Written n ≡ Written (length t) = ap (λ (x : Outcome). x .answer) w in
+    let f : n ≡ length t = cc in
+    let g : o ≡ t ++ drop (0 + length t) out = ap (λ (x : Outcome). x .out) w in
+    (omega (arith, ap length g, length-append t (drop (0 + length t) out)), rw (f, g) (take-append-seam t (drop (0 + length t) out)))
+
 -- where a source is opened
 abbrev start : Reader
 start = record { place = record { 0 = 0 }; mode = Normal }
@@ -70,6 +89,12 @@ module _ (src out : List ℕ) where
   listed-fits l h =
       let e : length (text (tokens tables-1 Normal src)) ≤ length out = omega (arith, text-fits src start (record { limit = l; inside = zero-le })) in
       rw (le-leb (length src) source-limit l, le-leb (length (text (tokens tables-1 Normal src))) (length out) e)
+
+  -- what is answered to be written stands at the front
+  pub listed-written : {n : ℕ} {o : List ℕ} → outcome (Written n) o ≡ listed src out → (n ≤ length o) × (take n o ≡ text (tokens tables-1 Normal src))
+  unfolding listed
+  listed-written {n} {o} e =
+      written-front (text (tokens tables-1 Normal src)) out (not-refused (leb (length src) source-limit) (written (text (tokens tables-1 Normal src)) out) SourceTooLong out e)
 
   -- two results that meet the contract are equal
   pub listed-once : {a b : Listed} {o p : List ℕ} → outcome a o ≡ listed src out → outcome b p ≡ listed src out → (a ≡ b) × (o ≡ p)

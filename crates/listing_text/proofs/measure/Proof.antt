@@ -1,3 +1,5 @@
+-- `listing_text::measure` meets its contract. The loop's invariant: the tokens and bytes counted, with those that are left from the
+-- reader on, are all of them; a scan takes one token off what is left. Assumes nothing.
 use Prim.Native.Nat.{_-_}
 use mathlib.Core.Path.{sym, _∙_}
 use borrow.Author.Needs.{needs}
@@ -26,37 +28,30 @@ onward c =
     let l = s .before .loop in
     says (s .before .before .before .args .src .now) (l .reader) (l .inv .0) (Found (t .0 .0) (t .0 .1 .0)) (sym (t .1) ∙ s .scan .ensures)
 
--- src/lib.rt:60:5
 loop-holds : tie.Need-loop-holds Inv-loop μ-loop
 loop-holds c = (c .before .pre, measured-start)
 
--- src/lib.rt:61:40
 scan-requires : tie.Need-scan-requires Inv-loop μ-loop
 scan-requires c κs = search needs
 
--- src/lib.rt:61:25
 enum-known-token : tie.Need-enum-known-token Inv-loop μ-loop
 enum-known-token c = search needs
 
--- src/lib.rt:64:24
 head-len-requires : tie.Need-head-len-requires Inv-loop μ-loop
 head-len-requires c κs = search needs
 
--- src/lib.rt:64:24
 add-t10 : tie.Need-add-t10 Inv-loop μ-loop
 add-t10 c =
     let l = c .before .before .before in
     let a = l .before .before in
     omega (arith, l .loop .inv .1 .sized, lines-fit (a .args .src .now) (a .args .start) (a .pre))
 
--- src/lib.rt:62:13
 returns : tie.Need-returns Inv-loop μ-loop
 returns c =
     let s = c .before .before in
     let l = s .before .loop in
     measured-end (none-left (s .before .before .before .args .src .now) (l .reader) (l .inv .0) (s .scan .result) (s .scan .ensures) (c .before .match .keys2)) (l .inv .1) (c .head-len .ensures .0)
 
--- src/lib.rt:67:9
 add-tokens : tie.Need-add-tokens Inv-loop μ-loop
 add-tokens c =
     let l = c .before .before .before .before in
@@ -64,11 +59,9 @@ add-tokens c =
     let m = measured-next (onward c .split) (l .loop .inv .1) in
     omega (arith, m .counted, count-fits (a .args .src .now) (a .args .start) (a .pre))
 
--- src/lib.rt:68:18
 line-len-requires : tie.Need-line-len-requires Inv-loop μ-loop
 line-len-requires c κs = search needs
 
--- src/lib.rt:68:9
 add-bytes : tie.Need-add-bytes Inv-loop μ-loop
 add-bytes c =
     let l = c .before .before .before .before .before in
@@ -76,11 +69,9 @@ add-bytes c =
     let m = measured-next (onward (c .before) .split) (l .loop .inv .1) in
     omega (arith, m .sized, lines-fit (a .args .src .now) (a .args .start) (a .pre))
 
--- src/lib.rt:60:5
 loop-less : tie.Need-loop-less Inv-loop μ-loop
 loop-less c = let o = onward (c .before) in omega (arith, o .further, o .sound .inside)
 
--- src/lib.rt:60:5
 loop-again : tie.Need-loop-again Inv-loop μ-loop
 loop-again c =
     let o = onward (c .before) in
@@ -89,17 +80,4 @@ loop-again c =
 pub measure-spec : {M : Type 1} → statement M
 measure-spec =
     tie.close
-    (tie.spec
-    Inv-loop
-    μ-loop
-    loop-holds
-    scan-requires
-    enum-known-token
-    head-len-requires
-    add-t10
-    returns
-    add-tokens
-    line-len-requires
-    add-bytes
-    loop-less
-    loop-again)
+    (tie.spec Inv-loop μ-loop loop-holds scan-requires enum-known-token head-len-requires add-t10 returns add-tokens line-len-requires add-bytes loop-less loop-again)

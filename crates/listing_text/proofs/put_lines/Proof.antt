@@ -1,3 +1,5 @@
+-- `listing_text::put_lines` meets its contract. The loop's invariant: to write the lines that are left from the reader on, at the place
+-- reached, is to write all of them; a scan takes one token off what is left. Assumes nothing.
 use Prim.Native.Nat.{_-_}
 use mathlib.Core.Path.{sym, _∙_}
 use borrow.Author.Needs.{needs}
@@ -25,38 +27,30 @@ onward c =
     let l = s .before .loop in
     says (s .before .before .before .before .args .src .now) (l .reader) (l .inv .0) (Found (t .0 .0) (t .0 .1 .0)) (sym (t .1) ∙ s .scan .ensures)
 
--- src/lib.rt:83:5
 loop-holds : tie.Need-loop-holds Inv-loop μ-loop
 loop-holds c = let a = c .before .before in (a .pre .0, writing-start (a .pre .1))
 
--- src/lib.rt:84:40
 scan-requires : tie.Need-scan-requires Inv-loop μ-loop
 scan-requires c κs = search needs
 
--- src/lib.rt:84:25
 enum-known-token : tie.Need-enum-known-token Inv-loop μ-loop
 enum-known-token c = search needs
 
--- src/lib.rt:85:13
 same-length : tie.Need-same-length Inv-loop μ-loop
 same-length c = search needs
 
--- src/lib.rt:85:13
 returns : tie.Need-returns Inv-loop μ-loop
 returns c =
     let s = c .before in
     let l = s .before .loop in
     writing-end (none-left (s .before .before .before .before .args .src .now) (l .reader) (l .inv .0) (s .scan .result) (s .scan .ensures) (c .match .keys2)) (l .inv .1)
 
--- src/lib.rt:87:9
 put-line-requires : tie.Need-put-line-requires Inv-loop μ-loop
 put-line-requires c κs = room-line (onward (c .before .before) .split) (c .before .before .before .before .before .loop .inv .1)
 
--- src/lib.rt:83:5
 loop-less : tie.Need-loop-less Inv-loop μ-loop
 loop-less c = let o = onward (c .before .before .before .before .before) in omega (arith, o .further, o .sound .inside)
 
--- src/lib.rt:83:5
 loop-again : tie.Need-loop-again Inv-loop μ-loop
 loop-again c =
     let p = c .before .before in
@@ -66,14 +60,4 @@ loop-again c =
 pub put-lines-spec : {M : Type 1} → statement M
 put-lines-spec =
     tie.close
-    (tie.spec
-    Inv-loop
-    μ-loop
-    loop-holds
-    scan-requires
-    enum-known-token
-    same-length
-    returns
-    put-line-requires
-    loop-less
-    loop-again)
+    (tie.spec Inv-loop μ-loop loop-holds scan-requires enum-known-token same-length returns put-line-requires loop-less loop-again)
