@@ -74,7 +74,7 @@ impl Reader {
             Token {
                 kind: choice.kind,
                 start: place,
-                end: end,
+                end,
             },
             Reader {
                 place: end,
@@ -87,23 +87,23 @@ impl Reader {
     pub fn enter_hex_pattern_mode(self) -> Reader
         ensures { λ r. ⌜ r ≡ entered HexPattern self ⌝ }
     {
-        let place = self.place;
-        Reader {
-            place: place,
-            mode: Mode::HexPattern,
-        }
+        in_mode(self, Mode::HexPattern)
     }
 
     // Switches to the jump mode, where the reader is.
     pub fn enter_hex_jump_mode(self) -> Reader
         ensures { λ r. ⌜ r ≡ entered HexJump self ⌝ }
     {
-        let place = self.place;
-        Reader {
-            place: place,
-            mode: Mode::HexJump,
-        }
+        in_mode(self, Mode::HexJump)
     }
+}
+
+// The reader where it is, in another mode.
+fn in_mode(reader: Reader, mode: Mode) -> Reader
+    ensures { λ r. ⌜ r ≡ entered mode reader ⌝ }
+{
+    let place = reader.place;
+    Reader { place, mode }
 }
 
 // What is taken at a place, in a mode.
