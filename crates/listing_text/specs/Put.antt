@@ -1,13 +1,13 @@
 -- Bytes written into a lent list, whose other bytes stay. Where there is room this is one store after the other, and so two texts
 -- written one behind the other are both written at once. Assumes nothing.
 use Prim.Native.Nat.{ℕ, suc, _+_, _≤_, _<_}
-use mathlib.Core.Path.{_≡_, sym, ap, _∙_}
+use mathlib.Core.Path.{_≡_, refl, sym, ap, _∙_}
 use mathlib.Core.List.{List, [], _∷_, _++_, append-assoc}
 use native.Mathlib.Nat.{add-zero}
 use native.Mathlib.Numerals.{add-one}
 use native.Mathlib.Omega.{arith}
-use lib.ListN.{length, take, drop, getD, set, length-append, length-drop}
-use lib.Seq.{sets, sets-eq, length-sets, drop-cons, drop-length}
+use lib.ListN.{length, take, drop, getD, set, length-append, length-drop, length-set}
+use lib.Seq.{sets, sets-eq, length-sets, set-comm, drop-cons, drop-length}
 
 -- out, with bs from the place `at` on
 unfoldable pub put : ℕ → List ℕ → List ℕ → List ℕ
@@ -29,6 +29,13 @@ sets-append (x ∷ a) b l i =
     let e : suc i + length a ≡ i + suc (length a) = omega arith in
     sets-append a b (set l i x) (suc i) ∙ ap (λ (n : ℕ). sets (sets (set l i x) (suc i) a) n b) e
 
+-- a store behind a text may be made before it
+sets-set : (a l : List ℕ) (i k b : ℕ) → i + length a ≤ k → set (sets l i a) k b ≡ sets (set l k b) i a
+sets-set [] l i k b h = refl
+sets-set (x ∷ a) l i k b h =
+    let n : i < k = omega arith in
+    sets-set a (set l i x) (suc i) k b (omega arith) ∙ ap (λ (m : List ℕ). sets m (suc i) a) (set-comm l i k x b (λ e. omega arith))
+
 pub length-put : (at : ℕ) (bs out : List ℕ) → at + length bs ≤ length out → length (put at bs out) ≡ length out
 length-put at bs out h = ap length (put-sets at bs out h) ∙ length-sets out at bs
 
@@ -49,6 +56,16 @@ put-append at a b out h =
 
 pub put-cons : (at b : ℕ) (bs out : List ℕ) → at + 1 + length bs ≤ length out → put at (b ∷ bs) out ≡ put (at + 1) bs (set out at b)
 put-cons at b bs out h = put-append at (b ∷ []) bs out h ∙ ap (λ (l : List ℕ). put (at + 1) bs l) (put-byte at b out (omega arith))
+
+-- the last byte first
+pub put-last : (at b : ℕ) (a out : List ℕ) → at + length a < length out → put at (a ++ (b ∷ [])) out ≡ put at a (set out (at + length a) b)
+put-last at b a out h =
+    let g : at + length a ≤ length out = omega arith in
+    put-append at a (b ∷ []) out (omega arith)
+    ∙ put-byte (at + length a) b (put at a out) (omega (arith, length-put at a out g))
+    ∙ ap (λ (l : List ℕ). set l (at + length a) b) (put-sets at a out g)
+    ∙ sets-set a out at (at + length a) b (omega arith)
+    ∙ sym (put-sets at a (set out (at + length a) b) (omega (arith, length-set out (at + length a) b)))
 
 -- The bytes of a text one by one: what is left to put at the place i of it, with one more put, and at its end.
 module _ (at i : ℕ) (bs out : List ℕ) (room : at + length bs ≤ length out) where

@@ -117,17 +117,21 @@ fn put_field(out: &mut [u8], at: usize, n: u32, b: u8) -> usize
     put_byte(out, behind, b)
 }
 
-// The digits of a number: those of its tenth part, and then the last one.
+// The digits of a number, from the last one to the first.
 fn put_number(out: &mut [u8], at: usize, n: u32) -> usize
     requires { ⌜ at + length (decimal n) ≤ length (now out) ⌝ }
     ensures { λ r. ⌜ Wrote at (decimal n) (now (out .entry)) (now (out .exit)) r ⌝ }
 {
-    if n < 10 {
-        put_byte(out, at, b'0' + n as u8)
-    } else {
-        let last = put_number(out, at, n / 10);
-        put_byte(out, last, b'0' + (n % 10) as u8)
+    let behind = at + number_len(n);
+    let mut i = behind;
+    let mut left = n;
+    while left >= 10 {
+        i -= 1;
+        out[i] = b'0' + (left % 10) as u8;
+        left = left / 10;
     }
+    out[at] = b'0' + left as u8;
+    behind
 }
 
 // A text, byte by byte.
@@ -170,5 +174,25 @@ fn head_len(n: u32) -> usize
 fn number_len(n: u32) -> usize
     ensures { λ r. ⌜ (r ≡ length (decimal n)) × (r ≤ 10) ⌝ }
 {
-    if n < 10 { 1 } else { number_len(n / 10) + 1 }
+    if n < 10 {
+        1
+    } else if n < 100 {
+        2
+    } else if n < 1_000 {
+        3
+    } else if n < 10_000 {
+        4
+    } else if n < 100_000 {
+        5
+    } else if n < 1_000_000 {
+        6
+    } else if n < 10_000_000 {
+        7
+    } else if n < 100_000_000 {
+        8
+    } else if n < 1_000_000_000 {
+        9
+    } else {
+        10
+    }
 }
