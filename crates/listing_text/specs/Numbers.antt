@@ -42,10 +42,12 @@ decimal-short (suc k) n h =
     (λ e. let p : 10 ^ suc (suc k) ≡ 10 ^ suc k * 10 = pow-suc 10 (suc k) in
     let l : n / 10 < 10 ^ suc k = omega arith in omega (arith, length-more n (ltb-false n 10 e), decimal-short k (n / 10) l))
 
+decimal-some : (n : ℕ) → 0 < length (decimal n)
+decimal-some n = by-test (ltb n 10) (λ e. omega (arith, length-one n (ltb-true n 10 e))) (λ e. omega (arith, length-more n (ltb-false n 10 e)))
+
 -- where it is not below 10 to the k, it has more than k
 decimal-long : (k n : ℕ) → 10 ^ k ≤ n → k < length (decimal n)
-decimal-long zero n h =
-    by-test (ltb n 10) (λ e. omega (arith, length-one n (ltb-true n 10 e))) (λ e. omega (arith, length-more n (ltb-false n 10 e)))
+decimal-long zero n h = decimal-some n
 decimal-long (suc k) n h =
     let p : 10 ^ suc k ≡ 10 ^ k * 10 = pow-suc 10 k in
     let q : 1 ≤ 10 ^ k = pow-pos k in
@@ -70,6 +72,9 @@ length-line x =
 pub length-head : (n : ℕ) → length (head n) ≡ length (decimal n) + 8
 unfolding head
 length-head n = omega (arith, length-field n lf)
+
+pub head-least : (n : ℕ) → 9 ≤ length (head n)
+head-least n = omega (arith, length-head n, decimal-some n)
 
 pub length-lines : (x : Token) (xs : List Token) → length (lines (x ∷ xs)) ≡ length (line x) + length (lines xs)
 unfolding lines

@@ -1,3 +1,5 @@
+-- `listing_text::measure` meets its contract. The loop's invariant: the tokens so far and those that are left are all, and so are the
+-- bytes of their lines. Assumes nothing.
 use Prim.Native.Nat.{_-_}
 use mathlib.Core.Path.{sym, _∙_}
 use borrow.Author.Needs.{needs}
@@ -10,11 +12,6 @@ use Rattle.listing_text.specs.Turns.{Measured, measured-start, measured-
 use Rattle.listing_text.proofs.Ends.{none-left}
 use Rattle.listing_text.proofs.measure.Statement.{statement}
 use Rattle.listing_text.proofs.measure.Tie as tie
-use Rattle.listing_text.proofs.measure.Reads as reads
-use Rattle.listing_text.proofs.measure.Lts as lts
-use Rattle.listing_text.proofs.head_len.Reads as head-len-reads
-use Rattle.listing_text.proofs.line_len.Reads as line-len-reads
-use Rattle.scanner.proofs.Reader.scan.Reads as scan-reads
 
 abbrev Inv-loop : tie.InvT-loop
 Inv-loop src tokens₀ bytes₀ reader₀ tokens bytes reader = Sound src reader × Measured (rest src reader₀) tokens bytes (rest src reader)
@@ -31,37 +28,30 @@ onward c =
     let l = s .before .loop in
     says (s .before .before .before .args .src .now) (l .reader) (l .inv .0) (Found (t .0 .0) (t .0 .1 .0)) (sym (t .1) ∙ s .scan .ensures)
 
--- src/lib.rt:60:5
 loop-holds : tie.Need-loop-holds Inv-loop μ-loop
 loop-holds c = (c .before .pre, measured-start)
 
--- src/lib.rt:61:40
 scan-requires : tie.Need-scan-requires Inv-loop μ-loop
 scan-requires c κs = search needs
 
--- src/lib.rt:61:25
 enum-known-token : tie.Need-enum-known-token Inv-loop μ-loop
 enum-known-token c = search needs
 
--- src/lib.rt:64:24
 head-len-requires : tie.Need-head-len-requires Inv-loop μ-loop
 head-len-requires c κs = search needs
 
--- src/lib.rt:64:24
-add-t10 : tie.Need-add-t10 Inv-loop μ-loop
-add-t10 c =
+add-result : tie.Need-add-result Inv-loop μ-loop
+add-result c =
     let l = c .before .before .before in
     let a = l .before .before in
     omega (arith, l .loop .inv .1 .sized, lines-fit (a .args .src .now) (a .args .start) (a .pre))
 
--- src/lib.rt:62:13
 returns : tie.Need-returns Inv-loop μ-loop
 returns c =
     let s = c .before .before in
     let l = s .before .loop in
     measured-end (none-left (s .before .before .before .args .src .now) (l .reader) (l .inv .0) (s .scan .result) (s .scan .ensures) (c .before .match .keys2)) (l .inv .1) (c .head-len .ensures .0)
 
--- src/lib.rt:67:9
 add-tokens : tie.Need-add-tokens Inv-loop μ-loop
 add-tokens c =
     let l = c .before .before .before .before in
@@ -69,11 +59,9 @@ add-tokens c =
     let m = measured-next (onward c .split) (l .loop .inv .1) in
     omega (arith, m .counted, count-fits (a .args .src .now) (a .args .start) (a .pre))
 
--- src/lib.rt:68:18
 line-len-requires : tie.Need-line-len-requires Inv-loop μ-loop
 line-len-requires c κs = search needs
 
--- src/lib.rt:68:9
 add-bytes : tie.Need-add-bytes Inv-loop μ-loop
 add-bytes c =
     let l = c .before .before .before .before .before in
@@ -81,11 +69,9 @@ add-bytes c =
     let m = measured-next (onward (c .before) .split) (l .loop .inv .1) in
     omega (arith, m .sized, lines-fit (a .args .src .now) (a .args .start) (a .pre))
 
--- src/lib.rt:60:5
 loop-less : tie.Need-loop-less Inv-loop μ-loop
 loop-less c = let o = onward (c .before) in omega (arith, o .further, o .sound .inside)
 
--- src/lib.rt:60:5
 loop-again : tie.Need-loop-again Inv-loop μ-loop
 loop-again c =
     let o = onward (c .before) in
@@ -101,7 +87,7 @@ measure-spec =
     scan-requires
     enum-known-token
     head-len-requires
-    add-t10
+    add-result
     returns
     add-tokens
     line-len-requires

@@ -1,3 +1,5 @@
+-- `listing_text::put_lines` meets its contract. The loop's invariant: the tokens so far and those that are left are all; and to put the
+-- lines that are left from here on is to put all of them from the start. Assumes nothing.
 use Prim.Native.Nat.{_-_}
 use mathlib.Core.Path.{sym, _∙_}
 use borrow.Author.Needs.{needs}
@@ -5,20 +7,17 @@ use native.Mathlib.Omega.{arith}
 use lib.ListN.{length}
 use Rattle.scanner.specs.declared.Scan.the-variants.{Found}
 use Rattle.listing_text.specs.Rest.{Sound, rest, Onward, says}
-use Rattle.listing_text.specs.Turns.{Writing, writing-start, room-line, writing-next, writing-end}
+use Rattle.listing_text.specs.Sizes.{count-fits}
+use Rattle.listing_text.specs.Turns.{Writing, writing-start, count-line, room-line, writing-next, count-end, writing-end}
 use Rattle.listing_text.proofs.Ends.{none-left}
 use Rattle.listing_text.proofs.put_lines.Statement.{statement}
 use Rattle.listing_text.proofs.put_lines.Tie as tie
-use Rattle.listing_text.proofs.put_lines.Reads as reads
-use Rattle.listing_text.proofs.put_lines.Lts as lts
-use Rattle.listing_text.proofs.put_line.Reads as put-line-reads
-use Rattle.scanner.proofs.Reader.scan.Reads as scan-reads
 
 abbrev Inv-loop : tie.InvT-loop
-Inv-loop out₀ at src behind₀ reader₀ out behind reader = Sound src reader × Writing (rest src reader₀) at out₀ behind out (rest src reader)
+Inv-loop out₀ at src tokens₀ behind₀ reader₀ out tokens behind reader = Sound src reader × Writing (rest src reader₀) at out₀ tokens behind out (rest src reader)
 
 abbrev μ-loop : tie.MeasureT-loop
-μ-loop out₀ at src behind₀ reader₀ out behind reader = length src - reader .place .0
+μ-loop out₀ at src tokens₀ behind₀ reader₀ out tokens behind reader = length src - reader .place .0
 
 -- what the scan says of the token found
 onward : (c : tie.After-token Inv-loop μ-loop)
@@ -29,38 +28,37 @@ onward c =
     let l = s .before .loop in
     says (s .before .before .before .before .args .src .now) (l .reader) (l .inv .0) (Found (t .0 .0) (t .0 .1 .0)) (sym (t .1) ∙ s .scan .ensures)
 
--- src/lib.rt:83:5
 loop-holds : tie.Need-loop-holds Inv-loop μ-loop
 loop-holds c = let a = c .before .before in (a .pre .0, writing-start (a .pre .1))
 
--- src/lib.rt:84:40
 scan-requires : tie.Need-scan-requires Inv-loop μ-loop
 scan-requires c κs = search needs
 
--- src/lib.rt:84:25
 enum-known-token : tie.Need-enum-known-token Inv-loop μ-loop
 enum-known-token c = search needs
 
--- src/lib.rt:85:13
 same-length : tie.Need-same-length Inv-loop μ-loop
 same-length c = search needs
 
--- src/lib.rt:85:13
 returns : tie.Need-returns Inv-loop μ-loop
 returns c =
     let s = c .before in
     let l = s .before .loop in
-    writing-end (none-left (s .before .before .before .before .args .src .now) (l .reader) (l .inv .0) (s .scan .result) (s .scan .ensures) (c .match .keys2)) (l .inv .1)
+    let e = none-left (s .before .before .before .before .args .src .now) (l .reader) (l .inv .0) (s .scan .result) (s .scan .ensures) (c .match .keys2) in
+    (count-end e (l .inv .1), writing-end e (l .inv .1))
 
--- src/lib.rt:87:9
+add-tokens : tie.Need-add-tokens Inv-loop μ-loop
+add-tokens c =
+    let l = c .before .before .before .before in
+    let a = l .before .before .before in
+    omega (arith, count-line (onward (c .before) .split) (l .loop .inv .1), count-fits (a .args .src .now) (a .args .start) (a .pre .0))
+
 put-line-requires : tie.Need-put-line-requires Inv-loop μ-loop
 put-line-requires c κs = room-line (onward (c .before .before) .split) (c .before .before .before .before .before .loop .inv .1)
 
--- src/lib.rt:83:5
 loop-less : tie.Need-loop-less Inv-loop μ-loop
 loop-less c = let o = onward (c .before .before .before .before .before) in omega (arith, o .further, o .sound .inside)
 
--- src/lib.rt:83:5
 loop-again : tie.Need-loop-again Inv-loop μ-loop
 loop-again c =
     let p = c .before .before in
@@ -78,6 +76,7 @@ put-lines-spec =
     enum-known-token
     same-length
     returns
+    add-tokens
     put-line-requires
     loop-less
     loop-again)
