@@ -122,10 +122,10 @@ wrote-up {at} {up} {k} {t = t} {bs} {x} {y} f g h l e room =
     let n : 0 + length t ≡ up = omega arith in
     record {
       bytes =
-        h .bytes
-        ∙ ap (λ (o : List ℕ). put 0 t o) (g .bytes ∙ rw (b, n))
-        ∙ sym (put-back 0 t bs y (omega (arith, ap length (f .bytes), length-put at bs x (omega arith))))
-        ∙ ap (λ (o : List ℕ). put 0 (t ++ bs) o) (f .bytes)
-        ∙ put-over 0 at (t ++ bs) bs x (omega arith) (omega arith) (omega (arith, length-append t bs));
+          h .bytes
+          ∙ ap (λ (o : List ℕ). put 0 t o) (g .bytes ∙ rw (b, n))
+          ∙ sym (put-back 0 t bs y (omega (arith, ap length (f .bytes), length-put at bs x (omega arith))))
+          ∙ ap (λ (o : List ℕ). put 0 (t ++ bs) o) (f .bytes)
+          ∙ put-over 0 at (t ++ bs) bs x (omega arith) (omega arith) (omega (arith, length-append t bs));
       behind = omega (arith, g .behind, ap length b, length-append t bs);
     }

@@ -59,11 +59,12 @@ loop-again : tie.Need-loop-again Inv-loop μ-loop
 loop-again c =
     let l = c .before .loop in
     let a = c .before .before .before .before .args in
-    let m : length (decimal (l .left)) ≡ length (decimal (l .left / 10)) + 1 = length-more (l .left) (omega arith) in
-    (omega arith,
-    simp length-set (omega arith),
-    simp length-set (omega arith),
-    sym (put-more (a .at) (l .left) (l .out) (omega arith) (l .i - 1) (omega arith) (omega arith)) ∙ l .inv .3)
+    let m : length (decimal (l .left)) ≡ length (decimal (l .left / 10)) + 1 = length-more (l .left) (omega arith) in (
+      omega arith,
+      simp length-set (omega arith),
+      simp length-set (omega arith),
+      sym (put-more (a .at) (l .left) (l .out) (omega arith) (l .i - 1) (omega arith) (omega arith)) ∙ l .inv .3,
+    )
 
 cast-out-2 : tie.Need-cast-out-2 Inv-loop μ-loop
 cast-out-2 c = search needs

@@ -56,11 +56,12 @@ loop-less c = search needs
 loop-again : tie.Need-loop-again Inv-loop μ-loop
 loop-again c =
     let l = c .before .before .loop in
-    let a = c .before .before .before .args in
-    (omega arith,
-    omega arith,
-    length-set (l .out) (l .i - 1 + a .by) (getD (l .out) (l .i - 1) 0) ∙ l .inv .2,
-    sym (up-next (a .from) (a .by) (l .i - 1) (l .i) (l .out) (omega arith) (omega arith) (omega arith)) ∙ l .inv .3)
+    let a = c .before .before .before .args in (
+      omega arith,
+      omega arith,
+      length-set (l .out) (l .i - 1 + a .by) (getD (l .out) (l .i - 1) 0) ∙ l .inv .2,
+      sym (up-next (a .from) (a .by) (l .i - 1) (l .i) (l .out) (omega arith) (omega arith) (omega arith)) ∙ l .inv .3,
+    )
 
 add-result : tie.Need-add-result Inv-loop μ-loop
 add-result c = search needs
