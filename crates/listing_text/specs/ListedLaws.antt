@@ -1,6 +1,6 @@
--- The cases of what `list` answers, from what opening and the two passes say; how much room is always enough; and that the contract
+-- The cases of what `list` answers, from what opening says and whether the text fits; how much room is always enough; and that the contract
 -- leaves no choice. Each is one look at the definition's tests. Assumes nothing.
-use Prim.Native.Nat.{ℕ, _+_, _≤_, _<_, zero-le}
+use Prim.Native.Nat.{ℕ, _+_, _≤_, zero-le}
 use mathlib.Core.Path.{_≡_, refl, sym, ap, _∙_}
 use mathlib.Core.Bool.{Bool, true, false, cond}
 use mathlib.Core.List.{List, _++_}
@@ -8,11 +8,10 @@ use native.Mathlib.Omega.{arith}
 use lib.ListN.{length, take, drop, length-append}
 use lib.Seq.{take-append-seam}
 use lib.Dec.{leb}
-use borrow.Author.Tests.{leb-true, le-leb, lt-leb}
+use borrow.Author.Tests.{leb-true, le-leb}
 use Rattle.refusals.specs.declared.Refusal.{Refusal}
 use Rattle.refusals.specs.declared.Refusal.the-variants.{SourceTooLong, NoRoom}
 use Rattle.tokens.specs.declared.Mode.the-variants.{Normal}
-use Rattle.tokens.specs.declared.Token.{Token}
 use Rattle.tokens.specs.Tokens.{tables-1}
 use Rattle.tokens.specs.Scan.{tokens}
 use Rattle.scanner.specs.declared.Reader.{Reader}
@@ -21,31 +20,21 @@ use Rattle.scanner.specs.declared.Opened.the-variants as opened
 use Rattle.scanner.specs.Reading.{source-limit, open-of}
 use Rattle.listing_text.specs.declared.Listed.{Listed}
 use Rattle.listing_text.specs.declared.Listed.the-variants.{Written, Refused}
-use Rattle.listing_text.specs.Listing.{lines, head, text}
+use Rattle.listing_text.specs.Listing.{text}
 use Rattle.listing_text.specs.Listed.{Outcome, outcome, written, listed}
-use Rattle.listing_text.specs.Put.{put, Wrote, wrote-both}
-use Rattle.listing_text.specs.Numbers.{text-parts, length-text}
+use Rattle.listing_text.specs.Put.{put, Wrote}
 use Rattle.listing_text.specs.Rest.{Sound, rest}
 use Rattle.listing_text.specs.Sizes.{text-fits}
-use Rattle.listing_text.specs.Turns.{Sized}
 
--- The text of some tokens that were measured.
-module _ {xs : List Token} {count bytes : ℕ} (s : Sized xs count bytes) (out : List ℕ) where
-  size : bytes ≡ length (text xs)
-  size = omega (arith, length-text xs, ap (λ n. length (head n)) (s .counted))
-
-  pub written-short : length out < bytes → outcome (Refused NoRoom) out ≡ written (text xs) out
+-- A text that fits and was put, and one that does not fit.
+module _ (t out : List ℕ) where
+  pub written-put : leb (length t) (length out) ≡ true → {after : List ℕ} {n : ℕ} → Wrote 0 t out after n → outcome (Written n) after ≡ written t out
   unfolding written
-  written-short h = rw (lt-leb (length (text xs)) (length out) (omega (arith, size)))
+  written-put h {after} {n} w = let e : n ≡ length t = omega (arith, w .behind) in rw (h, w .bytes, e)
 
-  -- the first line and then the others are the text
-  pub written-both : {mid after : List ℕ} {k n : ℕ} → bytes ≤ length out → Wrote 0 (head count) out mid k → Wrote k (lines xs) mid after n
-      → outcome (Written n) after ≡ written (text xs) out
+  pub written-none : leb (length t) (length out) ≡ false → outcome (Refused NoRoom) out ≡ written t out
   unfolding written
-  written-both {after = after} {n = n} h f g =
-      let w : Wrote 0 (text xs) out after n = rw (text-parts xs, ← s .counted) (wrote-both f g (omega (arith, s .sized))) in
-      let e : n ≡ length (text xs) = omega (arith, w .behind) in
-      rw (le-leb (length (text xs)) (length out) (omega (arith, size)), w .bytes, e)
+  written-none h = rw h
 
 -- an answer that is no refusal
 not-refused : (t : Bool) (w : Outcome) (r : Refusal) (out : List ℕ) {n : ℕ} {o : List ℕ} → outcome (Written n) o ≡ cond t w (outcome (Refused r) out) → outcome (Written n) o ≡ w

@@ -42,6 +42,24 @@ decimal-short (suc k) n h =
     (λ e. let p : 10 ^ suc (suc k) ≡ 10 ^ suc k * 10 = pow-suc 10 (suc k) in
     let l : n / 10 < 10 ^ suc k = omega arith in omega (arith, length-more n (ltb-false n 10 e), decimal-short k (n / 10) l))
 
+decimal-some : (n : ℕ) → 0 < length (decimal n)
+decimal-some n = by-test (ltb n 10) (λ e. omega (arith, length-one n (ltb-true n 10 e))) (λ e. omega (arith, length-more n (ltb-false n 10 e)))
+
+-- where it is not below 10 to the k, it has more than k
+decimal-long : (k n : ℕ) → 10 ^ k ≤ n → k < length (decimal n)
+decimal-long zero n h = decimal-some n
+decimal-long (suc k) n h =
+    let p : 10 ^ suc k ≡ 10 ^ k * 10 = pow-suc 10 k in
+    let q : 1 ≤ 10 ^ k = pow-pos k in
+    let l : 10 ^ k ≤ n / 10 = omega arith in omega (arith, length-more n (omega arith), decimal-long k (n / 10) l)
+  where
+    pow-pos : (k : ℕ) → 1 ≤ 10 ^ k
+    pow-pos zero = omega arith
+    pow-pos (suc k) = omega (arith, pow-suc 10 k, pow-pos k)
+
+pub decimal-length : (k n : ℕ) → 10 ^ k ≤ n → n < 10 ^ suc k → suc k ≡ length (decimal n)
+decimal-length k n h l = omega (arith, decimal-long k n h, decimal-short k n l)
+
 pub length-field : (n b : ℕ) → length (field n b) ≡ length (decimal n) + 1
 unfolding field
 length-field n b = length-append (decimal n) (b ∷ [])
@@ -54,6 +72,9 @@ length-line x =
 pub length-head : (n : ℕ) → length (head n) ≡ length (decimal n) + 8
 unfolding head
 length-head n = omega (arith, length-field n lf)
+
+pub head-least : (n : ℕ) → 9 ≤ length (head n)
+head-least n = omega (arith, length-head n, decimal-some n)
 
 pub length-lines : (x : Token) (xs : List Token) → length (lines (x ∷ xs)) ≡ length (line x) + length (lines xs)
 unfolding lines

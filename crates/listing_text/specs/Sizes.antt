@@ -61,15 +61,24 @@ module _ (src : List ℕ) (r : Reader) (h : Sound src r) where
       let k : x .kind ≤ 82 = leb-true (x .kind) 82 (and-second (leb 1 (x .kind)) (leb (x .kind) 82) (scan-kind (between 1 82) tables-1 kinds-1 refl refl src at m x m′ e)) in
       record { kind = omega arith; start = omega (arith, s .starts, s .longer, s .within, h .limit); end = omega (arith, s .within, h .limit) }
 
+  count-most : length (rest src r) ≤ length src
+  count-most = omega (arith, tile-count (r .place .0) (length src) (rest src r) (list-tiles tables-1 src (r .place .0) (r .mode) (h .inside)))
+
   pub count-fits : length (rest src r) ≤ source-limit
-  count-fits = omega (arith, h .limit, tile-count (r .place .0) (length src) (rest src r) (list-tiles tables-1 src (r .place .0) (r .mode) (h .inside)))
+  count-fits = omega (arith, h .limit, count-most)
+
+  lines-most : length (lines (rest src r)) ≤ 15 * length src
+  unfolding list-from
+  lines-most = omega (arith, lines-short (rest src r) (first-all tables-1 src Small small (length src) (r .place .0) (r .mode)), count-most)
 
   pub lines-fit : length (lines (rest src r)) ≤ 15 * source-limit
-  unfolding list-from
-  lines-fit = omega (arith, lines-short (rest src r) (first-all tables-1 src Small small (length src) (r .place .0) (r .mode)), count-fits)
+  lines-fit = omega (arith, h .limit, lines-most)
 
-  -- 983,038 bytes are room for every listing
-  pub text-fits : length (text (rest src r)) ≤ 983038
-  text-fits =
+  -- so much room is enough for a source's listing, and 983,038 bytes for every one
+  pub text-most : length (text (rest src r)) ≤ 13 + 15 * length src
+  text-most =
       let n = length (rest src r) in
-      omega (arith, length-text (rest src r), length-head n, decimal-short 4 n (omega (arith, count-fits)), lines-fit)
+      omega (arith, length-text (rest src r), length-head n, decimal-short 4 n (omega (arith, count-fits)), lines-most)
+
+  pub text-fits : length (text (rest src r)) ≤ 983038
+  text-fits = omega (arith, h .limit, text-most)

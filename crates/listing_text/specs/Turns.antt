@@ -7,22 +7,18 @@ use native.Mathlib.Nat.{add-zero}
 use native.Mathlib.Omega.{arith}
 use lib.ListN.{length}
 use Rattle.tokens.specs.declared.Token.{Token}
-use Rattle.listing_text.specs.Listing.{line, lines, head}
+use Rattle.listing_text.specs.Listing.{line, lines, head, text}
 use Rattle.listing_text.specs.Put.{Wrote, put-nil, wrote-both}
-use Rattle.listing_text.specs.Numbers.{length-lines}
-
--- How many tokens there are, and how many bytes their listing has.
-pub record Sized (xs : List Token) (count bytes : ℕ) : Type 0 where
-  pub counted : count ≡ length xs
-  pub sized : bytes ≡ length (head count) + length (lines xs)
+use Rattle.listing_text.specs.Numbers.{length-lines, length-text}
 
 -- Measuring: the tokens so far and the bytes of their lines, where those in `left` are left.
 pub record Measured (xs : List Token) (count bytes : ℕ) (left : List Token) : Type 0 where
   pub counted : count + length left ≡ length xs
   pub sized : bytes + length (lines left) ≡ length (lines xs)
 
--- Writing: to write the lines that are left from here on is to write all of them from the start.
-pub record Writing (xs : List Token) (at : ℕ) (out₀ : List ℕ) (behind : ℕ) (out : List ℕ) (left : List Token) : Type 0 where
+-- Writing: the tokens so far; and to write the lines that are left from here on is to write all of them from the start.
+pub record Writing (xs : List Token) (at : ℕ) (out₀ : List ℕ) (count behind : ℕ) (out : List ℕ) (left : List Token) : Type 0 where
+  pub counted : count + length left ≡ length xs
   pub same : length out ≡ length out₀
   pub room : behind + length (lines left) ≤ length out
   pub whole : (after : List ℕ) (n : ℕ) → Wrote behind (lines left) out after n → Wrote at (lines xs) out₀ after n
@@ -32,8 +28,8 @@ module _ {xs : List Token} where
   pub measured-start : Measured xs 0 0 xs
   measured-start = record { counted = omega arith; sized = omega arith }
 
-  pub writing-start : {at : ℕ} {out : List ℕ} → at + length (lines xs) ≤ length out → Writing xs at out at out xs
-  writing-start h = record { same = refl; room = h; whole = λ after n f. f }
+  pub writing-start : {at : ℕ} {out : List ℕ} → at + length (lines xs) ≤ length out → Writing xs at out 0 at out xs
+  writing-start h = record { counted = omega arith; same = refl; room = h; whole = λ after n f. f }
 
 -- one token more is done
 module _ {left next : List Token} {x : Token} (e : left ≡ x ∷ next) where
@@ -43,14 +39,18 @@ module _ {left next : List Token} {x : Token} (e : left ≡ x ∷ next) where
   pub measured-next : {xs : List Token} {count bytes : ℕ} → Measured xs count bytes left → Measured xs (count + 1) (bytes + length (line x)) next
   measured-next m = record { counted = omega (arith, m .counted, ap length e); sized = omega (arith, m .sized, length-left) }
 
-  module _ {xs : List Token} {at behind : ℕ} {out₀ out : List ℕ} (w : Writing xs at out₀ behind out left) where
+  module _ {xs : List Token} {at count behind : ℕ} {out₀ out : List ℕ} (w : Writing xs at out₀ count behind out left) where
+    pub count-line : count + 1 ≤ length xs
+    count-line = omega (arith, w .counted, ap length e)
+
     pub room-line : behind + length (line x) ≤ length out
     room-line = omega (arith, w .room, length-left)
 
-    pub writing-next : {n : ℕ} {after : List ℕ} → Wrote behind (line x) out after n → length after ≡ length out → Writing xs at out₀ n after next
+    pub writing-next : {n : ℕ} {after : List ℕ} → Wrote behind (line x) out after n → length after ≡ length out → Writing xs at out₀ (count + 1) n after next
     unfolding lines
     writing-next f s =
         record {
+          counted = omega (arith, w .counted, ap length e);
           same = s ∙ w .same;
           room = omega (arith, w .room, f .behind, length-left);
           whole = λ after n g. w .whole after n (rw e (wrote-both f g (omega (arith, w .room, length-left))));
@@ -58,11 +58,16 @@ module _ {left next : List Token} {x : Token} (e : left ≡ x ∷ next) where
 
 -- none is left
 module _ {xs left : List Token} (e : left ≡ []) where
-  pub measured-end : {count bytes n : ℕ} → Measured xs count bytes left → n ≡ length (head count) → Sized xs count (n + bytes)
+  pub measured-end : {count bytes n : ℕ} → Measured xs count bytes left → n ≡ length (head count) → n + bytes ≡ length (text xs)
   unfolding lines
-  measured-end m h = record { counted = omega (arith, m .counted, ap length e); sized = omega (arith, m .sized, ap (λ l. length (lines l)) e) }
+  measured-end {count} m h =
+      let c : count ≡ length xs = omega (arith, m .counted, ap length e) in
+      omega (arith, h, ap (λ n. length (head n)) c, length-text xs, m .sized, ap (λ l. length (lines l)) e)
 
-  pub writing-end : {at behind : ℕ} {out₀ out : List ℕ} → Writing xs at out₀ behind out left → Wrote at (lines xs) out₀ out behind
-  unfolding lines
-  writing-end {behind = n} {out = out} w =
-      w .whole out n (rw e (record { bytes = sym (put-nil n out (omega (arith, w .room))); behind = sym (add-zero n) }))
+  module _ {at count behind : ℕ} {out₀ out : List ℕ} (w : Writing xs at out₀ count behind out left) where
+    pub count-end : count ≡ length xs
+    count-end = omega (arith, w .counted, ap length e)
+
+    pub writing-end : Wrote at (lines xs) out₀ out behind
+    unfolding lines
+    writing-end = w .whole out behind (rw e (record { bytes = sym (put-nil behind out (omega (arith, w .room))); behind = sym (add-zero behind) }))

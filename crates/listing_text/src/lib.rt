@@ -3,11 +3,12 @@ ghost use Prim.Native.Nat.{_+_, _≤_, _<_};
 ghost use mathlib.Core.Path.{_≡_};
 ghost use mathlib.Core.List.{[], _∷_};
 ghost use lib.ListN.{length};
+ghost use lib.Seq.{slice};
+ghost use lib.Dec.{leb};
 ghost use Rattle.listing_text.specs.Listing.{decimal, field, line, lines, head, text};
 ghost use Rattle.listing_text.specs.Listed.{outcome, written, listed};
 ghost use Rattle.listing_text.specs.Put.{Wrote};
 ghost use Rattle.listing_text.specs.Rest.{Sound, rest};
-ghost use Rattle.listing_text.specs.Turns.{Sized};
 use refusals::Refusal;
 use scanner::Opened;
 use scanner::Reader;
@@ -30,39 +31,41 @@ pub fn list(src: &[u8], out: &mut [u8]) -> Listed
     }
 }
 
-// The listing of the tokens from a reader on. It is measured before anything is written.
+// The listing of the tokens from a reader on. Nothing is written where it has no room.
 fn list_from(src: &[u8], start: Reader, out: &mut [u8]) -> Listed
     requires { ⌜ Sound (now src) start ⌝ }
     ensures { λ r. ⌜ outcome r (now (out .exit)) ≡ written (text (rest (now (src .entry)) start)) (now (out .entry)) ⌝ }
 {
-    let size = measure(src, start);
-    if out.len() < size.bytes {
-        return Listed::Refused(Refusal::NoRoom);
+    if fits(src, start, out.len()) {
+        Listed::Written(put_text(out, src, start))
+    } else {
+        Listed::Refused(Refusal::NoRoom)
     }
-    let behind = put_head(out, 0, size.tokens);
-    Listed::Written(put_lines(out, behind, src, start))
 }
 
-// How many tokens there are, and how many bytes their listing has.
-struct Size {
-    tokens: u32,
-    bytes: usize,
-}
-
-// The first pass over the tokens from a reader on: it counts.
-fn measure(src: &[u8], start: Reader) -> Size
+// Whether `room` bytes are enough. The first line has at most 13 bytes, and each token's at most 15; only less is measured.
+fn fits(src: &[u8], start: Reader, room: usize) -> bool
     requires { ⌜ Sound (now src) start ⌝ }
-    ensures { λ r. ⌜ Sized (rest (now (src .entry)) start) (r .tokens) (r .bytes) ⌝ }
+    ensures { λ r. ⌜ r ≡ leb (length (text (rest (now (src .entry)) start))) room ⌝ }
+{
+    if room >= 13 + 15 * src.len() {
+        true
+    } else {
+        measure(src, start) <= room
+    }
+}
+
+// How many bytes the listing of the tokens from a reader on has.
+fn measure(src: &[u8], start: Reader) -> usize
+    requires { ⌜ Sound (now src) start ⌝ }
+    ensures { λ r. ⌜ r ≡ length (text (rest (now (src .entry)) start)) ⌝ }
 {
     let mut tokens: u32 = 0;
     let mut bytes: usize = 0;
     let mut reader = start;
     loop {
         let Scan::Found(token, next) = reader.scan(src) else {
-            return Size {
-                tokens,
-                bytes: head_len(tokens) + bytes,
-            };
+            return head_len(tokens) + bytes;
         };
         tokens += 1;
         bytes += line_len(token);
@@ -72,21 +75,57 @@ fn measure(src: &[u8], start: Reader) -> Size
 
 // Each function `put_..` writes at a place of `out` where there is room, changes nothing else, and answers the place behind.
 
-// The second pass over the tokens from a reader on: their lines.
-fn put_lines(out: &mut [u8], at: usize, src: &[u8], start: Reader) -> usize
+// The whole text. The first line has 9 bytes or more: the lines are put from there on while their number is not known, and then moved up.
+fn put_text(out: &mut [u8], src: &[u8], start: Reader) -> usize
+    requires { ⌜ Sound (now src) start ⌝ }
+    requires { ⌜ length (text (rest (now src) start)) ≤ length (now out) ⌝ }
+    ensures { λ r. ⌜ Wrote 0 (text (rest (now (src .entry)) start)) (now (out .entry)) (now (out .exit)) r ⌝ }
+{
+    let lines = put_lines(out, 9, src, start);
+    let by = head_len(lines.tokens) - 9;
+    let behind = put_up(out, 9, lines.behind, by);
+    put_head(out, 0, lines.tokens);
+    behind
+}
+
+// How many lines were put, and the place behind.
+struct Lines {
+    tokens: u32,
+    behind: usize,
+}
+
+// The lines of the tokens from a reader on.
+fn put_lines(out: &mut [u8], at: usize, src: &[u8], start: Reader) -> Lines
     requires { ⌜ Sound (now src) start ⌝ }
     requires { ⌜ at + length (lines (rest (now src) start)) ≤ length (now out) ⌝ }
-    ensures { λ r. ⌜ Wrote at (lines (rest (now (src .entry)) start)) (now (out .entry)) (now (out .exit)) r ⌝ }
+    ensures { λ r. ⌜ r .tokens ≡ length (rest (now (src .entry)) start) ⌝ }
+    ensures { λ r. ⌜ Wrote at (lines (rest (now (src .entry)) start)) (now (out .entry)) (now (out .exit)) (r .behind) ⌝ }
 {
+    let mut tokens: u32 = 0;
     let mut behind = at;
     let mut reader = start;
     loop {
         let Scan::Found(token, next) = reader.scan(src) else {
-            return behind;
+            return Lines { tokens, behind };
         };
+        tokens += 1;
         behind = put_line(out, behind, token);
         reader = next;
     }
+}
+
+// The bytes of `out` from one place to another, so many places further up: from the last to the first, since the two parts may overlap.
+fn put_up(out: &mut [u8], from: usize, to: usize, by: usize) -> usize
+    requires { ⌜ from ≤ to ⌝ }
+    requires { ⌜ to + by ≤ length (now out) ⌝ }
+    ensures { λ r. ⌜ Wrote (from + by) (slice from to (now (out .entry))) (now (out .entry)) (now (out .exit)) r ⌝ }
+{
+    let mut i = to;
+    while i > from {
+        i -= 1;
+        out[i + by] = out[i];
+    }
+    to + by
 }
 
 // A token's line.
@@ -117,17 +156,21 @@ fn put_field(out: &mut [u8], at: usize, n: u32, b: u8) -> usize
     put_byte(out, behind, b)
 }
 
-// The digits of a number: those of its tenth part, and then the last one.
+// The digits of a number, from the last one to the first.
 fn put_number(out: &mut [u8], at: usize, n: u32) -> usize
     requires { ⌜ at + length (decimal n) ≤ length (now out) ⌝ }
     ensures { λ r. ⌜ Wrote at (decimal n) (now (out .entry)) (now (out .exit)) r ⌝ }
 {
-    if n < 10 {
-        put_byte(out, at, b'0' + n as u8)
-    } else {
-        let last = put_number(out, at, n / 10);
-        put_byte(out, last, b'0' + (n % 10) as u8)
+    let behind = at + number_len(n);
+    let mut i = behind;
+    let mut left = n;
+    while left >= 10 {
+        i -= 1;
+        out[i] = b'0' + (left % 10) as u8;
+        left = left / 10;
     }
+    out[at] = b'0' + left as u8;
+    behind
 }
 
 // A text, byte by byte.
@@ -170,5 +213,25 @@ fn head_len(n: u32) -> usize
 fn number_len(n: u32) -> usize
     ensures { λ r. ⌜ (r ≡ length (decimal n)) × (r ≤ 10) ⌝ }
 {
-    if n < 10 { 1 } else { number_len(n / 10) + 1 }
+    if n < 10 {
+        1
+    } else if n < 100 {
+        2
+    } else if n < 1_000 {
+        3
+    } else if n < 10_000 {
+        4
+    } else if n < 100_000 {
+        5
+    } else if n < 1_000_000 {
+        6
+    } else if n < 10_000_000 {
+        7
+    } else if n < 100_000_000 {
+        8
+    } else if n < 1_000_000_000 {
+        9
+    } else {
+        10
+    }
 }

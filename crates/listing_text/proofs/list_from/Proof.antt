@@ -1,34 +1,38 @@
--- `listing_text::list_from` meets its contract: the first pass says how long the text is; where it fits, the first line and then the
--- others are put one behind the other. Nothing is written before the refusal. Assumes nothing.
-use native.Mathlib.Omega.{arith}
+-- `listing_text::list_from` meets its contract: where the text fits it is put, and else nothing is.
+-- Assumes nothing.
+use mathlib.Core.Path.{sym, _∙_}
 use borrow.Author.Needs.{needs}
-use Rattle.listing_text.specs.ListedLaws.{written-short, written-both}
+use borrow.Author.Tests.{leb-true}
+use lib.ListN.{length}
+use Rattle.listing_text.specs.Listing.{text}
+use Rattle.listing_text.specs.Rest.{rest}
+use Rattle.listing_text.specs.ListedLaws.{written-put, written-none}
 use Rattle.listing_text.proofs.list_from.Statement.{statement}
 use Rattle.listing_text.proofs.list_from.Tie as tie
 
-measure-requires : tie.Need-measure-requires
-measure-requires c κs = search needs
+fits-requires : tie.Need-fits-requires
+fits-requires c κs = search needs
 
-returns : tie.Need-returns
-returns c =
-    let m = c .before .before in
-    written-short (m .measure .ensures) (m .before .before .before .args .out .now) (omega arith)
-
-put-head-requires : tie.Need-put-head-requires
-put-head-requires c κs = search needs
-
-put-lines-requires : tie.Need-put-lines-requires
-put-lines-requires c κs = search needs
+put-text-requires : tie.Need-put-text-requires
+put-text-requires c κs =
+    let a = c .before .before .before .before .before in
+    (a .pre, leb-true (length (text (rest (a .args .src .now) (a .args .start)))) (length (a .args .out .now)) (sym (c .before .before .fits2 .ensures) ∙ c .before .if1 .taken))
 
 same-length : tie.Need-same-length
 same-length c = search needs
 
+returns : tie.Need-returns
+returns c =
+    let t = c .before .before in
+    let i = t .before .before .before in
+    let a = i .before .before .before in
+    written-put (text (rest (a .args .src .now) (a .args .start))) (a .args .out .now) (sym (i .fits2 .ensures) ∙ t .before .before .if1 .taken) (t .put-text .ensures)
+
 returns-2 : tie.Need-returns-2
 returns-2 c =
-    let l = c .before .before in
-    let h = l .before .before .before .before in
-    let m = h .before .before .before .before in
-    written-both (m .measure .ensures) (m .before .before .before .args .out .now) (omega arith) (h .put-head .ensures) (l .put-lines .ensures)
+    let i = c .before in
+    let a = i .before .before .before in
+    written-none (text (rest (a .args .src .now) (a .args .start))) (a .args .out .now) (sym (i .fits2 .ensures) ∙ c .if1 .left)
 
 pub list-from-spec : {M : Type 1} → statement M
-list-from-spec = tie.close (tie.spec measure-requires returns put-head-requires put-lines-requires same-length returns-2)
+list-from-spec = tie.close (tie.spec fits-requires put-text-requires same-length returns returns-2)

@@ -1,5 +1,5 @@
--- `listing_text::measure` meets its contract. The loop's invariant: the tokens and bytes counted, with those that are left from the
--- reader on, are all of them; a scan takes one token off what is left. Assumes nothing.
+-- `listing_text::measure` meets its contract. The loop's invariant: the tokens so far and those that are left are all, and so are the
+-- bytes of their lines. Assumes nothing.
 use Prim.Native.Nat.{_-_}
 use mathlib.Core.Path.{sym, _∙_}
 use borrow.Author.Needs.{needs}
@@ -40,8 +40,8 @@ enum-known-token c = search needs
 head-len-requires : tie.Need-head-len-requires Inv-loop μ-loop
 head-len-requires c κs = search needs
 
-add-t10 : tie.Need-add-t10 Inv-loop μ-loop
-add-t10 c =
+add-result : tie.Need-add-result Inv-loop μ-loop
+add-result c =
     let l = c .before .before .before in
     let a = l .before .before in
     omega (arith, l .loop .inv .1 .sized, lines-fit (a .args .src .now) (a .args .start) (a .pre))
@@ -80,4 +80,17 @@ loop-again c =
 pub measure-spec : {M : Type 1} → statement M
 measure-spec =
     tie.close
-    (tie.spec Inv-loop μ-loop loop-holds scan-requires enum-known-token head-len-requires add-t10 returns add-tokens line-len-requires add-bytes loop-less loop-again)
+    (tie.spec
+    Inv-loop
+    μ-loop
+    loop-holds
+    scan-requires
+    enum-known-token
+    head-len-requires
+    add-result
+    returns
+    add-tokens
+    line-len-requires
+    add-bytes
+    loop-less
+    loop-again)

@@ -1,5 +1,5 @@
--- `listing_text::put_lines` meets its contract. The loop's invariant: to write the lines that are left from the reader on, at the place
--- reached, is to write all of them; a scan takes one token off what is left. Assumes nothing.
+-- `listing_text::put_lines` meets its contract. The loop's invariant: the tokens so far and those that are left are all; and to put the
+-- lines that are left from here on is to put all of them from the start. Assumes nothing.
 use Prim.Native.Nat.{_-_}
 use mathlib.Core.Path.{sym, _∙_}
 use borrow.Author.Needs.{needs}
@@ -7,16 +7,17 @@ use native.Mathlib.Omega.{arith}
 use lib.ListN.{length}
 use Rattle.scanner.specs.declared.Scan.the-variants.{Found}
 use Rattle.listing_text.specs.Rest.{Sound, rest, Onward, says}
-use Rattle.listing_text.specs.Turns.{Writing, writing-start, room-line, writing-next, writing-end}
+use Rattle.listing_text.specs.Sizes.{count-fits}
+use Rattle.listing_text.specs.Turns.{Writing, writing-start, count-line, room-line, writing-next, count-end, writing-end}
 use Rattle.listing_text.proofs.Ends.{none-left}
 use Rattle.listing_text.proofs.put_lines.Statement.{statement}
 use Rattle.listing_text.proofs.put_lines.Tie as tie
 
 abbrev Inv-loop : tie.InvT-loop
-Inv-loop out₀ at src behind₀ reader₀ out behind reader = Sound src reader × Writing (rest src reader₀) at out₀ behind out (rest src reader)
+Inv-loop out₀ at src tokens₀ behind₀ reader₀ out tokens behind reader = Sound src reader × Writing (rest src reader₀) at out₀ tokens behind out (rest src reader)
 
 abbrev μ-loop : tie.MeasureT-loop
-μ-loop out₀ at src behind₀ reader₀ out behind reader = length src - reader .place .0
+μ-loop out₀ at src tokens₀ behind₀ reader₀ out tokens behind reader = length src - reader .place .0
 
 -- what the scan says of the token found
 onward : (c : tie.After-token Inv-loop μ-loop)
@@ -43,7 +44,14 @@ returns : tie.Need-returns Inv-loop μ-loop
 returns c =
     let s = c .before in
     let l = s .before .loop in
-    writing-end (none-left (s .before .before .before .before .args .src .now) (l .reader) (l .inv .0) (s .scan .result) (s .scan .ensures) (c .match .keys2)) (l .inv .1)
+    let e = none-left (s .before .before .before .before .args .src .now) (l .reader) (l .inv .0) (s .scan .result) (s .scan .ensures) (c .match .keys2) in
+    (count-end e (l .inv .1), writing-end e (l .inv .1))
+
+add-tokens : tie.Need-add-tokens Inv-loop μ-loop
+add-tokens c =
+    let l = c .before .before .before .before in
+    let a = l .before .before .before in
+    omega (arith, count-line (onward (c .before) .split) (l .loop .inv .1), count-fits (a .args .src .now) (a .args .start) (a .pre .0))
 
 put-line-requires : tie.Need-put-line-requires Inv-loop μ-loop
 put-line-requires c κs = room-line (onward (c .before .before) .split) (c .before .before .before .before .before .loop .inv .1)
@@ -60,4 +68,15 @@ loop-again c =
 pub put-lines-spec : {M : Type 1} → statement M
 put-lines-spec =
     tie.close
-    (tie.spec Inv-loop μ-loop loop-holds scan-requires enum-known-token same-length returns put-line-requires loop-less loop-again)
+    (tie.spec
+    Inv-loop
+    μ-loop
+    loop-holds
+    scan-requires
+    enum-known-token
+    same-length
+    returns
+    add-tokens
+    put-line-requires
+    loop-less
+    loop-again)
