@@ -2,7 +2,7 @@
 -- does not matter how it is grouped. Assumes nothing.
 use Prim.Native.Nat.{ℕ, _+_, _-_, _≤_, _<_}
 use mathlib.Core.Path.{_≡_, refl, sym, ap, _∙_}
-use mathlib.Core.Bool.{Bool, true, false, cond, _&&_}
+use mathlib.Core.Bool.{Bool, true, false, cond, and-false}
 use mathlib.Core.List.{List, [], _∷_, _++_}
 use native.Mathlib.Omega.{arith}
 use lib.ListN.{length, drop, drop-of-length-le}
@@ -23,11 +23,7 @@ better-none h g a = rw (lt-leb 1 (h .len) a)
 
 -- or since the other is longer
 pub better-longer : (h g : Hit) → h .len < g .len → better h g ≡ g
-better-longer h g a = rw (lt-leb (g .len) (h .len) a) (go (leb 1 (h .len)))
-  where
-    go : (t : Bool) → cond (t && false) h g ≡ g
-    go true = refl
-    go false = refl
+better-longer h g a = rw (lt-leb (g .len) (h .len) a, and-false)
 
 -- the lengths decide which
 data Which (h g : Hit) : Type 0 where

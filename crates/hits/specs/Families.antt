@@ -1,5 +1,5 @@
 -- What is left of a mode's rules at a first byte: a short list for each family of bytes, in the order of the rules. Each line is
--- computed; `family` carries it to a place of a source. Assumes nothing.
+-- computed; `suffice` carries it to a place of a source. Assumes nothing.
 use Prim.Native.Nat.{ℕ}
 use mathlib.Core.Path.{_≡_, refl, sym, ap, _∙_}
 use mathlib.Core.Bool.{true, false}
@@ -57,8 +57,8 @@ module _ {s : List ℕ} {at : ℕ} (p : Here s at) where
   at-spacing HexPattern e = suffice HexPattern (WHITESPACE ∷ NEWLINE ∷ []) spacing-rules refl (rw e)
   at-spacing HexJump e = suffice HexJump (WHITESPACE ∷ NEWLINE ∷ []) spacing-rules refl (rw e)
 
-  -- pattern mode
   module _ (f : spacing (getD s at 0) ≡ false) where
+    -- pattern mode
     pub at-hex : hex-start (getD s at 0) ≡ true → Suffice HexPattern s at (rule HEX-BYTE hex-byte ∷ [])
     unfolding rules first-kinds
     at-hex e = suffice HexPattern (HEX-BYTE ∷ []) (rule HEX-BYTE hex-byte ∷ []) refl (rw (f, e))
@@ -76,7 +76,7 @@ module _ {s : List ℕ} {at : ℕ} (p : Here s at) where
     unfolding rules first-kinds
     at-jump-operator e = suffice HexJump (kinds-of jump-operators) (map spelled jump-operators) refl (rw (f, e))
 
-    -- normal mode again
+    -- normal mode
     pub at-word : word-start (getD s at 0) ≡ true → Suffice Normal s at word-rules
     unfolding rules first-kinds
     at-word e = suffice Normal (IDENT ∷ kinds-of words-1) word-rules refl (rw (f, e))

@@ -2,11 +2,12 @@
 -- the word; one that is as long stands first in the list and wins, and one that is shorter loses. Assumes nothing.
 use Prim.Native.Nat.{ℕ, zero, suc, _+_, _-_, _≤_, _<_}
 use mathlib.Core.Path.{_≡_, refl, sym, ap, _∙_, subst}
-use mathlib.Core.Bool.{Bool, true, false, cond, _&&_, false≢true}
+use mathlib.Core.Bool.{Bool, true, false, cond, _&&_, false≢true, and-false, and-assoc}
 use mathlib.Core.List.{List, [], _∷_, _++_, map}
 use native.Mathlib.Omega.{arith}
 use native.Mathlib.Decide.{decLt}
 use lib.ListN.{length, getD, drop, take, length-drop}
+use lib.Seq.{take-all}
 use lib.Dec.{leb, eqb, eqb·zero-suc, eqb·suc-zero, eqb·suc-suc}
 use borrow.Author.Tests.{eqb-true, eqb-false, leb-true}
 use Rattle.patterns.specs.Utf8.{Class}
@@ -59,22 +60,14 @@ longest-least p w xs m e = go (longest-right p xs)
         near (yes l) = absurd (a .most (length w) l (prefix-long w xs e) front)
         near (no l) = omega arith
 
-and-no : (a : Bool) → (a && false) ≡ false
-and-no true = refl
-and-no false = refl
-
-and-assoc : (a b c : Bool) → (a && (b && c)) ≡ ((a && b) && c)
-and-assoc true b c = refl
-and-assoc false b c = refl
-
 -- and is the text of the first n bytes where it is as long
 same-take : (n : ℕ) (xs w : List ℕ) → n ≤ length xs → same (take n xs) w ≡ (prefix w xs && eqb (length w) n)
 unfolding same prefix
 same-take zero xs [] h = refl
-same-take zero xs (y ∷ w) h = rw (eqb·suc-zero (length w)) (sym (and-no (prefix (y ∷ w) xs)))
+same-take zero xs (y ∷ w) h = rw (eqb·suc-zero (length w)) (sym (and-false (prefix (y ∷ w) xs)))
 same-take (suc n) [] w h = absurd (omega arith)
 same-take (suc n) (x ∷ xs) [] h = sym (eqb·zero-suc n)
-same-take (suc n) (x ∷ xs) (y ∷ w) h = rw (same-take n xs w (omega arith), eqb·suc-suc) (and-assoc (eqb x y) (prefix w xs) (eqb (length w) n))
+same-take (suc n) (x ∷ xs) (y ∷ w) h = rw (same-take n xs w (omega arith), eqb·suc-suc) (sym (and-assoc (eqb x y) (prefix w xs) (eqb (length w) n)))
 
 -- Over any list of words that a pattern p matches: the best of the words and of p is the word's kind.
 module _ (p : Pat) (xs : List ℕ) where
@@ -112,17 +105,13 @@ all-whole : each whole-word words-1 ≡ true
 unfolding whole-word words-1
 all-whole = refl
 
-take-all : (w : List ℕ) → take (length w) w ≡ w
-take-all [] = refl
-take-all (x ∷ w) = ap (λ (l : List ℕ). x ∷ l) (take-all w)
-
 -- a text that is its own longest match is matched
 matches-whole : (p : Pat) (w : List ℕ) → 1 ≤ length w → longest p w ≡ length w → Matches p w
 matches-whole p w h e = go (longest-right p w) e
   where
     go : {n : ℕ} → Right p w n → n ≡ length w → Matches p w
     go (is-none a) q = absurd (omega arith)
-    go (is-longest a) q = subst (Matches p) (ap (λ (k : ℕ). take k w) q ∙ take-all w) (a .matched)
+    go (is-longest a) q = subst (Matches p) (ap (λ (k : ℕ). take k w) q ∙ take-all (length w) w (omega arith)) (a .matched)
 
 all-listed : (xs : List ℕ) → All (Listed (identifier digits-16) xs) words-1
 unfolding whole-word

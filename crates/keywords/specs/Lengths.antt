@@ -2,7 +2,7 @@
 -- Assumes nothing.
 use Prim.Native.Nat.{ℕ, suc}
 use mathlib.Core.Path.{_≡_, refl, sym, ap, _∙_}
-use mathlib.Core.Bool.{Bool, true, false, cond, _&&_, true≢false}
+use mathlib.Core.Bool.{Bool, true, false, cond, true≢false, and-false}
 use mathlib.Core.List.{List, [], _∷_}
 use lib.ListN.{length}
 use lib.Dec.{eqb}
@@ -24,11 +24,7 @@ unfolding same
 same-differs [] [] h = absurd (h refl)
 same-differs [] (y ∷ t) h = refl
 same-differs (x ∷ w) [] h = refl
-same-differs (x ∷ w) (y ∷ t) h = rw (← same-differs w t (λ e. h (ap suc e))) (go (eqb x y))
-  where
-    go : (b : Bool) → false ≡ (b && false)
-    go true = refl
-    go false = refl
+same-differs (x ∷ w) (y ∷ t) h = rw (← same-differs w t (λ e. h (ap suc e))) (sym (and-false (eqb x y)))
 
 by-length : (xs : List Spelling) (w : List ℕ) → keyword-of (as-long (length w) xs) w ≡ keyword-of xs w
 unfolding keyword-of as-long

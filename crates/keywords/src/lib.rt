@@ -52,8 +52,9 @@ fn pick(word: &[u8], text: &[u8], kind: u32, other: u32) -> u32
     other
 }
 
-// The keywords of each length, the first of them tried last.
+// The keywords of each length. The first in the list is asked last, so that it would win.
 
+// The keywords of two bytes.
 fn of_two(word: &[u8]) -> u32
     ensures { λ r. ⌜ r ≡ keyword-of (as-long 2 words-1) (now (word .entry)) ⌝ }
 {
@@ -63,6 +64,7 @@ fn of_two(word: &[u8]) -> u32
     pick(word, b"at", 5, kind)
 }
 
+// The keywords of three bytes.
 fn of_three(word: &[u8]) -> u32
     ensures { λ r. ⌜ r ≡ keyword-of (as-long 3 words-1) (now (word .entry)) ⌝ }
 {
@@ -74,6 +76,7 @@ fn of_three(word: &[u8]) -> u32
     pick(word, b"all", 1, kind)
 }
 
+// The keywords of four bytes.
 fn of_four(word: &[u8]) -> u32
     ensures { λ r. ⌜ r ≡ keyword-of (as-long 4 words-1) (now (word .entry)) ⌝ }
 {
@@ -86,6 +89,7 @@ fn of_four(word: &[u8]) -> u32
     pick(word, b"meta", 26, kind)
 }
 
+// The keywords of five bytes.
 fn of_five(word: &[u8]) -> u32
     ensures { λ r. ⌜ r ≡ keyword-of (as-long 5 words-1) (now (word .entry)) ⌝ }
 {
@@ -93,6 +97,7 @@ fn of_five(word: &[u8]) -> u32
     pick(word, b"ascii", 4, kind)
 }
 
+// The keywords of six bytes.
 fn of_six(word: &[u8]) -> u32
     ensures { λ r. ⌜ r ≡ keyword-of (as-long 6 words-1) (now (word .entry)) ⌝ }
 {
@@ -102,6 +107,7 @@ fn of_six(word: &[u8]) -> u32
     pick(word, b"base64", 6, kind)
 }
 
+// The keywords of seven bytes.
 fn of_seven(word: &[u8]) -> u32
     ensures { λ r. ⌜ r ≡ keyword-of (as-long 7 words-1) (now (word .entry)) ⌝ }
 {
@@ -113,6 +119,7 @@ fn of_seven(word: &[u8]) -> u32
     pick(word, b"defined", 10, kind)
 }
 
+// The keywords of eight bytes.
 fn of_eight(word: &[u8]) -> u32
     ensures { λ r. ⌜ r ≡ keyword-of (as-long 8 words-1) (now (word .entry)) ⌝ }
 {
@@ -122,6 +129,7 @@ fn of_eight(word: &[u8]) -> u32
     pick(word, b"contains", 9, kind)
 }
 
+// The keywords of nine bytes.
 fn of_nine(word: &[u8]) -> u32
     ensures { λ r. ⌜ r ≡ keyword-of (as-long 9 words-1) (now (word .entry)) ⌝ }
 {
@@ -130,6 +138,7 @@ fn of_nine(word: &[u8]) -> u32
     pick(word, b"condition", 8, kind)
 }
 
+// The keywords of ten bytes.
 fn of_ten(word: &[u8]) -> u32
     ensures { λ r. ⌜ r ≡ keyword-of (as-long 10 words-1) (now (word .entry)) ⌝ }
 {
@@ -138,6 +147,7 @@ fn of_ten(word: &[u8]) -> u32
     pick(word, b"base64wide", 7, kind)
 }
 
+// The keywords of eleven bytes.
 fn of_eleven(word: &[u8]) -> u32
     ensures { λ r. ⌜ r ≡ keyword-of (as-long 11 words-1) (now (word .entry)) ⌝ }
 {

@@ -2,7 +2,7 @@
 -- followed by what begins with no byte of the class. Each is a turn of `walk`, or a law of Walk.antt. Assumes nothing.
 use Prim.Native.Nat.{ℕ, suc, _+_, _≤_, _<_}
 use mathlib.Core.Path.{_≡_, refl, sym, ap, _∙_}
-use mathlib.Core.Bool.{true, false, cond, true≢false}
+use mathlib.Core.Bool.{true, false, cond}
 use mathlib.Core.List.{List}
 use native.Mathlib.Numerals.{add-one}
 use native.Mathlib.Omega.{arith}
@@ -14,18 +14,14 @@ use borrow.Author.Tests.{ne-eqb, eqb-true}
 use Rattle.patterns.specs.Utf8.{Class}
 use Rattle.patterns.specs.Pattern.{Pat, nothing, byte, seq, star, plus, nullable, deriv, walk, longest}
 use Rattle.patterns.specs.Bools.{by-test}
-use Rattle.patterns.specs.Walk.{ends, Came, start, step, free, swap, span, span-yes, span-no, span-over, span-stops, skip, through}
+use Rattle.patterns.specs.Walk.{byte-within, ends, Came, start, step, free, swap, span, span-yes, span-no, span-over, span-stops, skip, through}
 
 -- past its end a source reads as 0: any other byte stands within it
 pub outside : (s : List ℕ) (i n : ℕ) → length s ≤ i → 0 < n → eqb (getD s i 0) n ≡ false
 outside s i n h l = ne-eqb (getD s i 0) n (λ e. omega (arith, List·getD-eq-default s 0 h))
 
 pub inside : (s : List ℕ) (i n : ℕ) → eqb (getD s i 0) n ≡ true → 0 < n → i < length s
-inside s i n e l = go (decLt i (length s))
-  where
-    go : Dec (i < length s) → i < length s
-    go (yes h) = h
-    go (no h) = absurd (true≢false (sym e ∙ outside s i n (omega arith) l))
+inside s i n e l = byte-within s i (λ z. omega (arith, eqb-true (getD s i 0) n e))
 
 module _ {p : Pat} {s : List ℕ} {at : ℕ} {q : Pat} {i b : ℕ} (c : Came p s at q i b) where
   -- the byte n stands at i

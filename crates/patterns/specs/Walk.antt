@@ -8,7 +8,7 @@ use native.Mathlib.Nat.{zero-add, add-zero, add-suc, suc-add}
 use native.Mathlib.Numerals.{add-one}
 use native.Mathlib.Omega.{arith}
 use native.Mathlib.Decide.{decLt}
-use lib.ListN.{length, getD, drop, drop-of-length-le, length-drop}
+use lib.ListN.{length, getD, drop, drop-of-length-le, length-drop, List·getD-eq-default}
 use lib.Seq.{drop-cons, drop-drop, getD-drop}
 use lib.Dec.{eqb}
 use borrow.Author.Tests.{eq-eqb, ne-eqb}
@@ -52,6 +52,14 @@ best-free : (q : Pat) (s : List ℕ) (k b b′ : ℕ) → nullable q ≡ true �
 unfolding walk
 best-free q [] k b b′ e = rw e
 best-free q (x ∷ s) k b b′ e = rw e
+
+-- past its end a source reads as 0: any other byte stands within it
+pub byte-within : (s : List ℕ) (i : ℕ) → (getD s i 0 ≡ 0 → ⊥) → i < length s
+byte-within s i h = go (decLt i (length s))
+  where
+    go : Dec (i < length s) → i < length s
+    go (yes l) = l
+    go (no l) = absurd (h (List·getD-eq-default s 0 (omega arith)))
 
 -- what stands at i, if anything does, ends q
 pub ends : (q : Pat) (s : List ℕ) (i b : ℕ) → (i < length s → deriv (getD s i 0) q ≡ nothing) → cond (nullable q) i b ≡ walk q (drop i s) i b

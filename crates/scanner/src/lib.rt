@@ -1,8 +1,7 @@
 // The scanner: one token for each call, in three modes.
 ghost use mathlib.Core.Path.{_≡_};
-ghost use Prim.Native.Nat.{_≤_, _<_};
 ghost use mathlib.Core.List.{[]};
-ghost use lib.ListN.{length, drop};
+ghost use lib.ListN.{drop};
 ghost use Rattle.tokens.specs.declared.Mode.the-variants.{Normal, HexPattern, HexJump};
 ghost use Rattle.tokens.specs.Tokens.{tables-1};
 ghost use Rattle.tokens.specs.Scan.{tried, choose};
@@ -162,7 +161,7 @@ fn normal(src: &[u8], at: usize) -> Choice
     }
 }
 
-// Where no rule matches: one ill-formed byte; or the well-formed text up to White_Space, one byte at least.
+// Where no rule matches: INVALID_UTF8, one ill-formed byte; else UNKNOWN.
 fn unmatched(src: &[u8], at: usize) -> Choice
     ensures { λ r. ⌜ r ≡ choose tables-1 [] (drop at (now (src .entry))) ⌝ }
 {
@@ -177,7 +176,7 @@ fn unmatched(src: &[u8], at: usize) -> Choice
     }
 }
 
-// Its length.
+// UNKNOWN: the well-formed text up to White_Space, one byte at least.
 fn unknown(src: &[u8], at: usize) -> Choice
     ensures { λ r. ⌜ r ≡ unknown-of (drop at (now (src .entry))) ⌝ }
 {

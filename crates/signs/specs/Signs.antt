@@ -1,20 +1,19 @@
 -- Spellings of one or two bytes, none of them 0: which stands at a place is told by the byte there and the next one, 0 standing for
--- the end. By induction on the spellings: a literal's longest match is all of it or nothing (text-yes, text-no). Assumes nothing.
+-- the end. By induction on the spellings: a literal's longest match is all of it or nothing (literal-longest). Assumes nothing.
 use Prim.Native.Nat.{ℕ, _+_, _<_}
 use mathlib.Core.Path.{_≡_, refl, sym, ap, _∙_}
 use mathlib.Core.Bool.{Bool, true, false, cond, _&&_, and-true, true≢false, false≢true}
 use mathlib.Core.List.{List, [], _∷_, map}
 use native.Mathlib.Nat.{add-zero}
 use native.Mathlib.Omega.{arith}
-use native.Mathlib.Decide.{decLt}
-use lib.ListN.{length, getD, drop, List·getD-eq-default}
+use lib.ListN.{length, getD, drop}
 use lib.Seq.{getD-drop}
 use lib.Dec.{eqb, leb}
 use borrow.Author.Tests.{ne-eqb, leb-true}
 use Rattle.patterns.specs.Bools.{and-first, and-second}
 use Rattle.patterns.specs.Lists.{each}
 use Rattle.patterns.specs.Pattern.{literal, longest}
-use Rattle.patterns.specs.Walk.{prefix, literal-longest}
+use Rattle.patterns.specs.Walk.{byte-within, prefix, literal-longest}
 use Rattle.tokens.specs.declared.Hit.{Hit}
 use Rattle.tokens.specs.Tokens.{Spelling, spelled, one-of}
 use Rattle.tokens.specs.NoneOf.{NoneOf, not-one}
@@ -81,11 +80,7 @@ pub record Byte (s : List ℕ) (i b : ℕ) : Type 0 where
   pub is : b ≡ getD s i 0
 
 pub inside : {s : List ℕ} {i b : ℕ} → Byte s i b → (b ≡ 0 → ⊥) → i < length s
-inside {s} {i} r h = go (decLt i (length s))
-  where
-    go : Dec (i < length s) → i < length s
-    go (yes l) = l
-    go (no l) = absurd (h (r .is ∙ List·getD-eq-default s 0 (omega arith)))
+inside {s} {i} r h = byte-within s i (λ z. h (r .is ∙ z))
 
 module _ (ws : List Spelling) (tidy : each (λ w. short (w .bytes)) ws ≡ true) {s : List ℕ} {at a : ℕ} (r : Byte s at a) where
   told-at : best (map spelled ws) (drop at s) ≡ told ws a (getD s (at + 1) 0)

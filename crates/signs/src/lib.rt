@@ -4,7 +4,7 @@ ghost use Prim.Native.Nat.{_+_};
 ghost use mathlib.Core.List.{map};
 ghost use lib.ListN.{drop};
 ghost use Rattle.patterns.specs.Pattern.{longest};
-ghost use Rattle.tokens.specs.Tokens.{spelled, operators, pattern-operators, jump-operators, newlines, hex-or-mark, hex-byte};
+ghost use Rattle.tokens.specs.Tokens.{spelled, operators, pattern-operators, jump-operators, newlines, hex-byte};
 ghost use Rattle.tokens.specs.Scan.{best};
 ghost use Rattle.signs.specs.Signs.{Byte};
 ghost use Rattle.signs.specs.HexByte.{Nibbles};

@@ -103,7 +103,6 @@ pub fn multi_line_string(src: &[u8], at: usize) -> usize
     quoted(src, at, b"\"\"\"", true)
 }
 
-// Whether `b` is in low..=high.
 // Whether a letter stands at `at`.
 fn letter_at(src: &[u8], at: usize) -> bool
     ensures { λ r. ⌜ r ≡ stands letter (now (src .entry)) at ⌝ }

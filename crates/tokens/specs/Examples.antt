@@ -139,7 +139,7 @@ sum : List ℕ → ℕ
 sum [] = 0
 sum (x ∷ xs) = x + sum xs
 
-spaced : List ℕ → Bool
+abbrev pub spaced : List ℕ → Bool
 spaced [] = true
 spaced (d ∷ []) = true
 spaced (d ∷ e ∷ ds) = leb (d + 10) e && spaced (e ∷ ds)
@@ -155,6 +155,6 @@ nd-first : members 0x700 (in-runs digits-16)
 unfolding members digits-16
 nd-first = refl
 
-nd-spaced : spaced digits-16 ≡ true
-unfolding spaced digits-16
+pub nd-spaced : spaced digits-16 ≡ true
+unfolding digits-16
 nd-spaced = refl

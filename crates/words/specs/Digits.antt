@@ -1,25 +1,16 @@
 -- Runs of ten, found by halves in a table of their first values: what a search has come to, and what it says in the end. The one rule that
--- the table has to meet, that each run ends before the next begins, is computed. Assumes nothing.
+-- the table has to meet, that each run ends before the next begins, is computed (nd-spaced). Assumes nothing.
 use Prim.Native.Nat.{ℕ, zero, suc, _+_, _-_, _≤_, _<_}
 use mathlib.Core.Path.{_≡_, refl, sym}
-use mathlib.Core.Bool.{Bool, true, false, _&&_}
+use mathlib.Core.Bool.{true, false}
 use mathlib.Core.List.{List, [], _∷_}
 use native.Mathlib.Omega.{arith}
 use lib.ListN.{length, getD}
 use lib.Dec.{leb, ltb}
 use borrow.Author.Tests.{le-leb, lt-leb, leb-true, leb-false, lt-ltb, le-ltb}
 use Rattle.patterns.specs.Bools.{and-first, and-second, by-test}
-use Rattle.tokens.specs.Unicode.{in-runs, digits-16}
-
--- each run ends before the next begins
-abbrev pub spaced : List ℕ → Bool
-spaced [] = true
-spaced (d ∷ []) = true
-spaced (d ∷ e ∷ ds) = leb (d + 10) e && spaced (e ∷ ds)
-
-pub digits-spaced : spaced digits-16 ≡ true
-unfolding digits-16
-digits-spaced = refl
+use Rattle.tokens.specs.Unicode.{in-runs}
+use Rattle.tokens.specs.Examples.{spaced}
 
 rest-spaced : (d : ℕ) (ds : List ℕ) → spaced (d ∷ ds) ≡ true → spaced ds ≡ true
 rest-spaced d [] r = refl

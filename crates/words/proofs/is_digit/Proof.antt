@@ -3,7 +3,8 @@
 use Prim.Native.Nat.{_-_}
 use native.Mathlib.Omega.{arith}
 use Rattle.tokens.specs.Unicode.{digits-16}
-use Rattle.words.specs.Digits.{Around, whole-table, go-up, go-down, not-found, found, digits-spaced}
+use Rattle.words.specs.Digits.{Around, whole-table, go-up, go-down, not-found, found}
+use Rattle.tokens.specs.Examples.{nd-spaced}
 use Rattle.words.proofs.is_digit.Statement.{statement}
 use Rattle.words.proofs.is_digit.Tie as tie
 
@@ -52,7 +53,7 @@ loop-again-2 c = go-down digits-16 _ (c .before .before .loop .inv) _ (omega ari
 
 returns : tie.Need-returns Inv-loop μ-loop
 unfolding digits-16
-returns c = not-found digits-16 _ (c .before .before .loop .inv) digits-spaced (c .before .loop-test .left) (c .if2 .taken)
+returns c = not-found digits-16 _ (c .before .before .loop .inv) nd-spaced (c .before .loop-test .left) (c .if2 .taken)
 
 sub-result : tie.Need-sub-result Inv-loop μ-loop
 sub-result c = omega arith
@@ -71,7 +72,7 @@ sub-result-2 c = c .before .before .loop .inv .below (c .if2 .left)
 
 returns-2 : tie.Need-returns-2 Inv-loop μ-loop
 unfolding digits-16
-returns-2 c = found digits-16 _ (c .before .before .loop .inv) digits-spaced (c .before .loop-test .left) (c .if2 .left)
+returns-2 c = found digits-16 _ (c .before .before .loop .inv) nd-spaced (c .before .loop-test .left) (c .if2 .left)
 
 pub is-digit-spec : {M : Type 1} → statement M
 is-digit-spec =
