@@ -5,7 +5,6 @@ pub mod Examples
 pub mod Put
 pub mod Listed
 pub mod Numbers
-pub mod Rest
 pub mod Sizes
 pub mod Turns
 pub mod ListedLaws

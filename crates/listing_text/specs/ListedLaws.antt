@@ -18,12 +18,12 @@ use Rattle.scanner.specs.declared.Reader.{Reader}
 use Rattle.scanner.specs.declared.Opened.{Opened}
 use Rattle.scanner.specs.declared.Opened.the-variants as opened
 use Rattle.scanner.specs.Reading.{source-limit, open-of}
+use Rattle.scanner.specs.Following.{Sound, rest}
 use Rattle.listing_text.specs.declared.Listed.{Listed}
 use Rattle.listing_text.specs.declared.Listed.the-variants.{Written, Refused}
 use Rattle.listing_text.specs.Listing.{text}
 use Rattle.listing_text.specs.Listed.{Outcome, outcome, written, listed}
 use Rattle.listing_text.specs.Put.{put, Wrote}
-use Rattle.listing_text.specs.Rest.{Sound, rest}
 use Rattle.listing_text.specs.Sizes.{text-fits}
 
 -- A text that fits and was put, and one that does not fit.

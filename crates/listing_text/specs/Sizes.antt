@@ -1,6 +1,6 @@
 -- How long a listing can be. A kind is below 100 and an offset below 100000, so no line has more than 15 bytes; and since no token is
 -- empty, no source has more tokens than bytes. Assumes nothing.
-use Prim.Native.Nat.{ℕ, zero, suc, _+_, _*_, _≤_, _<_}
+use Prim.Native.Nat.{ℕ, _+_, _*_, _≤_, _<_}
 use mathlib.Core.Path.{_≡_, refl}
 use mathlib.Core.List.{List, [], _∷_}
 use native.Mathlib.Omega.{arith}
@@ -12,33 +12,16 @@ use Rattle.patterns.specs.Bools.{and-second}
 use Rattle.patterns.specs.Lists.{All}
 use Rattle.tokens.specs.declared.Mode.{Mode}
 use Rattle.tokens.specs.declared.Token.{Token}
-use Rattle.tokens.specs.declared.Scanned.{Scanned}
-use Rattle.tokens.specs.declared.Scanned.the-variants.{End, Found}
-use Rattle.tokens.specs.Tokens.{Tables, tables-1}
-use Rattle.tokens.specs.Scan.{scan, onto, list-first, list-from}
+use Rattle.tokens.specs.declared.Scanned.the-variants.{Found}
+use Rattle.tokens.specs.Tokens.{tables-1}
+use Rattle.tokens.specs.Scan.{scan, list-from}
 use Rattle.tokens.specs.ScanLaws.{Step, scan-found, scan-kind, kinds-1}
-use Rattle.tokens.specs.ListLaws.{Tiles, list-tiles}
+use Rattle.tokens.specs.ListLaws.{tile-count, list-tiles, first-all}
 use Rattle.scanner.specs.declared.Reader.{Reader}
 use Rattle.scanner.specs.Reading.{source-limit}
+use Rattle.scanner.specs.Following.{Sound, rest}
 use Rattle.listing_text.specs.Listing.{line, lines, text}
-use Rattle.listing_text.specs.Rest.{rest, Sound}
 use Rattle.listing_text.specs.Numbers.{decimal-short, length-line, length-head, length-lines, length-text}
-
--- Every token of a list comes from a scan.
-module _ (t : Tables) (src : List ℕ) (P : Token → Type 0) (f : (at : ℕ) (m : Mode) (x : Token) (m′ : Mode) → scan t src at m ≡ Found x m′ → P x) where
-  first-all : (n at : ℕ) (m : Mode) → All P ((list-first n t src at m) .tokens)
-  unfolding list-first
-  first-all zero at m = tt
-  first-all (suc n) at m = go (scan t src at m) refl (λ e m′. first-all n e m′)
-    where
-      go : (y : Scanned) → scan t src at m ≡ y → ((e : ℕ) (m′ : Mode) → All P ((list-first n t src e m′) .tokens)) → All P ((onto y m (λ e m′. list-first n t src e m′)) .tokens)
-      go End e g = tt
-      go (Found x m′) e g = (f at m x m′ e, g (x .end .0) m′)
-
--- tokens that lie one after the other, none of them empty, are no more than the bytes that they cover
-tile-count : (a z : ℕ) (xs : List Token) → Tiles a z xs → a + length xs ≤ z
-tile-count a z [] h = omega arith
-tile-count a z (x ∷ xs) h = omega (arith, tile-count (x .end .0) z xs (h .2))
 
 -- what every token of a source within the limit is
 record Small (x : Token) : Type 0 where

@@ -2,9 +2,12 @@
 -- Assumes nothing.
 use Prim.Native.Nat.{ℕ}
 use Rattle.refusals.specs.declared.Refusal.{Refusal}
-use Rattle.refusals.specs.declared.Refusal.the-variants.{SourceTooLong, NoRoom, NotAsOpened}
+use Rattle.refusals.specs.declared.Refusal.the-variants.{SourceTooLong, WindowFull, TooManyBookmarks, NotLive, NoRoom, NotAsOpened}
 
 abbrev pub number-of : Refusal → ℕ
 number-of SourceTooLong = 1
+number-of WindowFull = 2
+number-of TooManyBookmarks = 3
+number-of NotLive = 4
 number-of NoRoom = 15
 number-of NotAsOpened = 24

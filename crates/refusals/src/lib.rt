@@ -6,6 +6,12 @@ ghost use Rattle.refusals.specs.Refusals.{number-of};
 pub enum Refusal {
     // opening: the source is over the limit
     SourceTooLong,
+    // next, peek, has_more: more tokens would be kept than there are slots
+    WindowFull,
+    // bookmark: as many are live as there can be
+    TooManyBookmarks,
+    // restore, remove: no such bookmark is live
+    NotLive,
     // what is lent has no room for the answer
     NoRoom,
     // a later call: what is handed over is not as it was at opening
@@ -18,6 +24,9 @@ pub fn number(refusal: Refusal) -> u32
 {
     match refusal {
         Refusal::SourceTooLong => 1,
+        Refusal::WindowFull => 2,
+        Refusal::TooManyBookmarks => 3,
+        Refusal::NotLive => 4,
         Refusal::NoRoom => 15,
         Refusal::NotAsOpened => 24,
     }

@@ -2,3 +2,4 @@
 pub mod Reading
 pub mod Choosing
 pub mod ReaderLaws
+pub mod Following

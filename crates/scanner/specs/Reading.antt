@@ -8,10 +8,11 @@ use lib.Dec.{leb}
 use Rattle.refusals.specs.declared.Refusal.the-variants.{SourceTooLong, NotAsOpened}
 use Rattle.tokens.specs.declared.Mode.{Mode}
 use Rattle.tokens.specs.declared.Mode.the-variants.{Normal}
+use Rattle.tokens.specs.declared.Token.{Token}
 use Rattle.tokens.specs.declared.Scanned.{Scanned}
 use Rattle.tokens.specs.declared.Scanned.the-variants as scanned
 use Rattle.tokens.specs.Tokens.{tables-1}
-use Rattle.tokens.specs.Scan.{scan}
+use Rattle.tokens.specs.Scan.{scan, ends, list-first}
 use Rattle.scanner.specs.declared.Reader.{Reader}
 use Rattle.scanner.specs.declared.Opened.{Opened}
 use Rattle.scanner.specs.declared.Opened.the-variants as opened
@@ -41,3 +42,14 @@ scan-of src r = cond (sound src r) (moved (scan tables-1 src (r .place .0) (r .m
 -- A switch acts at the place where the reader is.
 abbrev pub entered : Mode → Reader → Reader
 entered m r = record { place = r .place; mode = m }
+
+-- The first n tokens from a reader on, and the reader behind them.
+pub record Ahead : Type 0 where
+  pub tokens : List Token
+  pub reader : Reader
+
+unfoldable pub ahead : ℕ → List ℕ → Reader → Ahead
+unfolding list-first
+ahead n src r =
+    let l = list-first n tables-1 src (r .place .0) (r .mode) in
+    record { tokens = l .tokens; reader = record { place = record { 0 = ends (r .place .0) (l .tokens) }; mode = l .mode } }

@@ -1,22 +1,28 @@
 -- The list of tokens: it is the scan's answer and then the list from there, and it tiles the source. Since each token is at least
 -- one byte long, as many turns as there are bytes are enough, and more change nothing. Assumes nothing.
-use Prim.Native.Nat.{ℕ, zero, suc, _-_, _≤_, _<_, zero-le}
+use Prim.Native.Nat.{ℕ, zero, suc, min, _+_, _-_, _≤_, _<_, zero-le}
 use mathlib.Core.Path.{_≡_, refl, ap, _∙_}
 use mathlib.Core.List.{List, [], _∷_}
 use native.Mathlib.Omega.{arith}
 use lib.ListN.{length}
+use Rattle.patterns.specs.Lists.{All}
 use Rattle.tokens.specs.declared.Mode.{Mode}
 use Rattle.tokens.specs.declared.Token.{Token}
 use Rattle.tokens.specs.declared.Scanned.{Scanned}
 use Rattle.tokens.specs.declared.Scanned.the-variants.{End, Found}
 use Rattle.tokens.specs.Tokens.{Tables}
-use Rattle.tokens.specs.Scan.{scan, listing, onto, list-first, list-from, tokens}
+use Rattle.tokens.specs.Scan.{scan, listing, onto, ends, list-first, list-from, tokens}
 use Rattle.tokens.specs.ScanLaws.{Step, scan-found, scan-end}
 
 -- the tokens lie one after the other from a to z, none of them empty
 abbrev pub Tiles : ℕ → ℕ → List Token → Type 0
 Tiles a z [] = a ≡ z
 Tiles a z (x ∷ xs) = (x .start .0 ≡ a) × (a < x .end .0) × Tiles (x .end .0) z xs
+
+-- so they are no more than the bytes that they cover
+pub tile-count : (a z : ℕ) (xs : List Token) → Tiles a z xs → a + length xs ≤ z
+tile-count a z [] h = omega arith
+tile-count a z (x ∷ xs) h = omega (arith, tile-count (x .end .0) z xs (h .2))
 
 module _ (t : Tables) (src : List ℕ) where
   -- what is left of the source at a place
@@ -28,7 +34,7 @@ module _ (t : Tables) (src : List ℕ) where
   less at m x m′ e = let s : Step src at x = scan-found t src at m x m′ e in omega (arith, s .longer, s .within)
 
   -- any two numbers of turns that are enough give the same list
-  enough : (n k at : ℕ) (m : Mode) → left at ≤ n → left at ≤ k → list-first n t src at m ≡ list-first k t src at m
+  pub enough : (n k at : ℕ) (m : Mode) → left at ≤ n → left at ≤ k → list-first n t src at m ≡ list-first k t src at m
   unfolding list-first
   enough zero zero at m h g = refl
   enough zero (suc k) at m h g = rw (scan-end t src at m .1 (omega arith))
@@ -66,3 +72,41 @@ module _ (t : Tables) (src : List ℕ) where
 
   pub tokens-tile : (m : Mode) → Tiles 0 (length src) (tokens t m src)
   tokens-tile m = list-tiles 0 m zero-le
+
+  -- the first n are n of them, or all that there are
+  pub first-count : (n at : ℕ) (m : Mode) → length ((list-first n t src at m) .tokens) ≡ min n (length ((list-from t src at m) .tokens))
+  unfolding list-first
+  first-count zero at m = omega arith
+  first-count (suc n) at m = rw (list-step at m) (go (scan t src at m) (λ e m′. first-count n e m′))
+    where
+      go : (y : Scanned) → ((e : ℕ) (m′ : Mode) → length ((list-first n t src e m′) .tokens) ≡ min n (length ((list-from t src e m′) .tokens)))
+          → length ((onto y m (λ e m′. list-first n t src e m′)) .tokens) ≡ min (suc n) (length ((onto y m (λ e m′. list-from t src e m′)) .tokens))
+      go End f = omega arith
+      go (Found x m′) f = omega (arith, f (x .end .0) m′)
+
+  -- where they end: each is at least one byte on, and the last within the source
+  pub first-ends : (n at : ℕ) (m : Mode) → at ≤ length src
+      → (at + length ((list-first n t src at m) .tokens) ≤ ends at ((list-first n t src at m) .tokens)) × (ends at ((list-first n t src at m) .tokens) ≤ length src)
+  unfolding list-first
+  first-ends zero at m h = (omega arith, h)
+  first-ends (suc n) at m h = go (scan t src at m) refl (λ e m′ l. first-ends n e m′ l)
+    where
+      go : (y : Scanned) → scan t src at m ≡ y
+          → ((e : ℕ) (m′ : Mode) → e ≤ length src → (e + length ((list-first n t src e m′) .tokens) ≤ ends e ((list-first n t src e m′) .tokens)) × (ends e ((list-first n t src e m′) .tokens) ≤ length src))
+          → (at + length ((onto y m (λ e m′. list-first n t src e m′)) .tokens) ≤ ends at ((onto y m (λ e m′. list-first n t src e m′)) .tokens)) × (ends at ((onto y m (λ e m′. list-first n t src e m′)) .tokens) ≤ length src)
+      go End e f = (omega arith, h)
+      go (Found x m′) e f =
+          let s : Step src at x = scan-found t src at m x m′ e in
+          let g = f (x .end .0) m′ (s .within) in
+          (omega (arith, s .longer, g .0), g .1)
+
+  -- every token of a list comes from a scan
+  module _ (P : Token → Type 0) (f : (at : ℕ) (m : Mode) (x : Token) (m′ : Mode) → scan t src at m ≡ Found x m′ → P x) where
+    pub first-all : (n at : ℕ) (m : Mode) → All P ((list-first n t src at m) .tokens)
+    unfolding list-first
+    first-all zero at m = tt
+    first-all (suc n) at m = go (scan t src at m) refl (λ e m′. first-all n e m′)
+      where
+        go : (y : Scanned) → scan t src at m ≡ y → ((e : ℕ) (m′ : Mode) → All P ((list-first n t src e m′) .tokens)) → All P ((onto y m (λ e m′. list-first n t src e m′)) .tokens)
+        go End e g = tt
+        go (Found x m′) e g = (f at m x m′ e, g (x .end .0) m′)

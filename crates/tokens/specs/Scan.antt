@@ -97,6 +97,11 @@ abbrev pub onto : Scanned → Mode → (ℕ → Mode → Listing) → Listing
 onto End m rest = listing [] m
 onto (Found x m′) m rest = let l = rest (x .end .0) m′ in listing (x ∷ l .tokens) (l .mode)
 
+-- where tokens that start at a place end: with the last of them
+abbrev pub ends : ℕ → List Token → ℕ
+ends at [] = at
+ends at (x ∷ xs) = ends (x .end .0) xs
+
 -- the first n of them
 unfoldable pub list-first : ℕ → Tables → List ℕ → ℕ → Mode → Listing
 unfolding scan

@@ -34,6 +34,9 @@ pub const UNKNOWN: u32 = 82;
 // A place in a source, in bytes from its start.
 pub struct Offset(pub u32);
 
+// The number of a token, counted from the start of its source.
+pub struct TokenIndex(pub u32);
+
 // The scanner's three modes.
 pub enum Mode {
     Normal,

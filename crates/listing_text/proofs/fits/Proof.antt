@@ -6,8 +6,8 @@ use borrow.Author.Needs.{needs}
 use borrow.Author.Tests.{le-leb}
 use lib.ListN.{length}
 use lib.Dec.{leb}
+use Rattle.scanner.specs.Following.{rest}
 use Rattle.listing_text.specs.Listing.{text}
-use Rattle.listing_text.specs.Rest.{rest}
 use Rattle.listing_text.specs.Sizes.{text-most}
 use Rattle.listing_text.proofs.fits.Statement.{statement}
 use Rattle.listing_text.proofs.fits.Tie as tie

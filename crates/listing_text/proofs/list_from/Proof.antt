@@ -4,8 +4,8 @@ use mathlib.Core.Path.{sym, _∙_}
 use borrow.Author.Needs.{needs}
 use borrow.Author.Tests.{leb-true}
 use lib.ListN.{length}
+use Rattle.scanner.specs.Following.{rest}
 use Rattle.listing_text.specs.Listing.{text}
-use Rattle.listing_text.specs.Rest.{rest}
 use Rattle.listing_text.specs.ListedLaws.{written-put, written-none}
 use Rattle.listing_text.proofs.list_from.Statement.{statement}
 use Rattle.listing_text.proofs.list_from.Tie as tie

@@ -6,10 +6,10 @@ use borrow.Author.Needs.{needs}
 use native.Mathlib.Omega.{arith}
 use lib.ListN.{length}
 use Rattle.scanner.specs.declared.Scan.the-variants.{Found}
-use Rattle.listing_text.specs.Rest.{Sound, rest, Onward, says}
+use Rattle.scanner.specs.Following.{Sound, Onward, says, rest, rest-end, rest-more}
+use Rattle.scanner.proofs.Answers.{at-end}
 use Rattle.listing_text.specs.Sizes.{count-fits, lines-fit}
 use Rattle.listing_text.specs.Turns.{Measured, measured-start, measured-next, measured-end}
-use Rattle.listing_text.proofs.Ends.{none-left}
 use Rattle.listing_text.proofs.measure.Statement.{statement}
 use Rattle.listing_text.proofs.measure.Tie as tie
 
@@ -50,13 +50,15 @@ returns : tie.Need-returns Inv-loop μ-loop
 returns c =
     let s = c .before .before in
     let l = s .before .loop in
-    measured-end (none-left (s .before .before .before .args .src .now) (l .reader) (l .inv .0) (s .scan .result) (s .scan .ensures) (c .before .match .keys2)) (l .inv .1) (c .head-len .ensures .0)
+    let src = s .before .before .before .args .src .now in
+    let e = rest-end src (l .reader) (at-end (l .inv .0) (s .scan .ensures) (c .before .match .keys2)) in
+    measured-end e (l .inv .1) (c .head-len .ensures .0)
 
 add-tokens : tie.Need-add-tokens Inv-loop μ-loop
 add-tokens c =
     let l = c .before .before .before .before in
     let a = l .before .before in
-    let m = measured-next (onward c .split) (l .loop .inv .1) in
+    let m = measured-next (rest-more _ _ _ _ (onward c)) (l .loop .inv .1) in
     omega (arith, m .counted, count-fits (a .args .src .now) (a .args .start) (a .pre))
 
 line-len-requires : tie.Need-line-len-requires Inv-loop μ-loop
@@ -66,7 +68,7 @@ add-bytes : tie.Need-add-bytes Inv-loop μ-loop
 add-bytes c =
     let l = c .before .before .before .before .before in
     let a = l .before .before in
-    let m = measured-next (onward (c .before) .split) (l .loop .inv .1) in
+    let m = measured-next (rest-more _ _ _ _ (onward (c .before))) (l .loop .inv .1) in
     omega (arith, m .sized, lines-fit (a .args .src .now) (a .args .start) (a .pre))
 
 loop-less : tie.Need-loop-less Inv-loop μ-loop
@@ -75,7 +77,7 @@ loop-less c = let o = onward (c .before) in omega (arith, o .further, o .sound .
 loop-again : tie.Need-loop-again Inv-loop μ-loop
 loop-again c =
     let o = onward (c .before) in
-    (o .sound, rw (c .line-len .ensures) (measured-next (o .split) (c .before .before .before .before .before .loop .inv .1)))
+    (o .sound, rw (c .line-len .ensures) (measured-next (rest-more _ _ _ _ o) (c .before .before .before .before .before .loop .inv .1)))
 
 pub measure-spec : {M : Type 1} → statement M
 measure-spec =

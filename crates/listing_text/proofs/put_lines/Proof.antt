@@ -6,10 +6,10 @@ use borrow.Author.Needs.{needs}
 use native.Mathlib.Omega.{arith}
 use lib.ListN.{length}
 use Rattle.scanner.specs.declared.Scan.the-variants.{Found}
-use Rattle.listing_text.specs.Rest.{Sound, rest, Onward, says}
+use Rattle.scanner.specs.Following.{Sound, Onward, says, rest, rest-end, rest-more}
+use Rattle.scanner.proofs.Answers.{at-end}
 use Rattle.listing_text.specs.Sizes.{count-fits}
 use Rattle.listing_text.specs.Turns.{Writing, writing-start, count-line, room-line, writing-next, count-end, writing-end}
-use Rattle.listing_text.proofs.Ends.{none-left}
 use Rattle.listing_text.proofs.put_lines.Statement.{statement}
 use Rattle.listing_text.proofs.put_lines.Tie as tie
 
@@ -44,17 +44,18 @@ returns : tie.Need-returns Inv-loop μ-loop
 returns c =
     let s = c .before in
     let l = s .before .loop in
-    let e = none-left (s .before .before .before .before .args .src .now) (l .reader) (l .inv .0) (s .scan .result) (s .scan .ensures) (c .match .keys2) in
+    let src = s .before .before .before .before .args .src .now in
+    let e = rest-end src (l .reader) (at-end (l .inv .0) (s .scan .ensures) (c .match .keys2)) in
     (count-end e (l .inv .1), writing-end e (l .inv .1))
 
 add-tokens : tie.Need-add-tokens Inv-loop μ-loop
 add-tokens c =
     let l = c .before .before .before .before in
     let a = l .before .before .before in
-    omega (arith, count-line (onward (c .before) .split) (l .loop .inv .1), count-fits (a .args .src .now) (a .args .start) (a .pre .0))
+    omega (arith, count-line (rest-more _ _ _ _ (onward (c .before))) (l .loop .inv .1), count-fits (a .args .src .now) (a .args .start) (a .pre .0))
 
 put-line-requires : tie.Need-put-line-requires Inv-loop μ-loop
-put-line-requires c κs = room-line (onward (c .before .before) .split) (c .before .before .before .before .before .loop .inv .1)
+put-line-requires c κs = room-line (rest-more _ _ _ _ (onward (c .before .before))) (c .before .before .before .before .before .loop .inv .1)
 
 loop-less : tie.Need-loop-less Inv-loop μ-loop
 loop-less c = let o = onward (c .before .before .before .before .before) in omega (arith, o .further, o .sound .inside)
@@ -63,7 +64,7 @@ loop-again : tie.Need-loop-again Inv-loop μ-loop
 loop-again c =
     let p = c .before .before in
     let t = p .before .before .before in
-    (onward t .sound, writing-next (onward t .split) (t .before .before .before .loop .inv .1) (p .put-line .ensures) (p .put-line .kept .0))
+    (onward t .sound, writing-next (rest-more _ _ _ _ (onward t)) (t .before .before .before .loop .inv .1) (p .put-line .ensures) (p .put-line .kept .0))
 
 pub put-lines-spec : {M : Type 1} → statement M
 put-lines-spec =

@@ -8,10 +8,10 @@ use borrow.Author.Needs.{needs}
 use lib.ListN.{length}
 use lib.Seq.{slice}
 use Rattle.tokens.specs.declared.Token.{Token}
+use Rattle.scanner.specs.Following.{rest}
 use Rattle.listing_text.specs.Listing.{lines, head, text}
 use Rattle.listing_text.specs.Put.{Wrote, wrote-up}
 use Rattle.listing_text.specs.Numbers.{head-least, text-parts, length-text}
-use Rattle.listing_text.specs.Rest.{rest}
 use Rattle.listing_text.proofs.put_text.Statement.{statement}
 use Rattle.listing_text.proofs.put_text.Tie as tie
 

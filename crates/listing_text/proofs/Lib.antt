@@ -1,2 +1,0 @@
--- What the proofs of both passes cite.
-pub mod Ends

@@ -1,0 +1,74 @@
+-- `recorded_tokens::replay_lines` is safe and ends: each line takes at least its LF, so there are no more lines than bytes passed, and no more of
+-- them differ than there are. The measure is what is left of the text. Assumes nothing.
+use Prim.Native.Nat.{_+_, _-_, _≤_}
+use borrow.Author.Needs.{needs}
+use lib.ListN.{length}
+use mathlib.Core.Logic.{⊎-elim}
+use native.Mathlib.Omega.{arith}
+use Rattle.recorded_tokens.proofs.replay_lines.Statement.{statement}
+use Rattle.recorded_tokens.proofs.replay_lines.Tie as tie
+
+abbrev Inv-loop : tie.InvT-loop
+Inv-loop text lines₀ differ₀ at₀ lines differ at = (lines ≤ at) × (differ ≤ lines) × (at ≤ length text + 1)
+
+abbrev μ-loop : tie.MeasureT-loop
+μ-loop text lines₀ differ₀ at₀ lines differ at = length text - at
+
+loop-holds : tie.Need-loop-holds Inv-loop μ-loop
+loop-holds c = search needs
+
+line-end-requires : tie.Need-line-end-requires Inv-loop μ-loop
+line-end-requires c κs = search needs
+
+add-lines : tie.Need-add-lines Inv-loop μ-loop
+add-lines c = search needs
+
+sub-is-right : tie.Need-sub-is-right Inv-loop μ-loop
+sub-is-right c = search needs
+
+part-is-right-start : tie.Need-part-is-right-start Inv-loop μ-loop
+part-is-right-start c = search needs
+
+part-is-right-end : tie.Need-part-is-right-end Inv-loop μ-loop
+part-is-right-end c = search needs
+
+is-right-requires : tie.Need-is-right-requires Inv-loop μ-loop
+is-right-requires c κs = search needs
+
+write-differs-requires : tie.Need-write-differs-requires Inv-loop μ-loop
+write-differs-requires c κs = search needs
+
+add-differ : tie.Need-add-differ Inv-loop μ-loop
+add-differ c = search needs
+
+add-at : tie.Need-add-at Inv-loop μ-loop
+add-at c = search needs
+
+loop-less : tie.Need-loop-less Inv-loop μ-loop
+loop-less c = search needs
+
+loop-again : tie.Need-loop-again Inv-loop μ-loop
+loop-again c = ⊎-elim (λ w. omega arith) (λ w. omega arith) (c .if1 .came)
+
+returns : tie.Need-returns Inv-loop μ-loop
+returns c = search needs
+
+pub replay-lines-spec : {M : Type 1} → statement M
+replay-lines-spec =
+    tie.close
+    (tie.spec
+    Inv-loop
+    μ-loop
+    loop-holds
+    line-end-requires
+    add-lines
+    sub-is-right
+    part-is-right-start
+    part-is-right-end
+    is-right-requires
+    write-differs-requires
+    add-differ
+    add-at
+    loop-less
+    loop-again
+    returns)

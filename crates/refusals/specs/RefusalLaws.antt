@@ -1,0 +1,29 @@
+-- A number names one refusal, since the refusal can be read back from it.
+-- Assumes nothing.
+use Prim.Native.Nat.{ℕ}
+use mathlib.Core.Path.{_≡_, refl, sym, ap, _∙_}
+use mathlib.Core.Bool.{cond}
+use lib.Dec.{eqb}
+use Rattle.refusals.specs.declared.Refusal.{Refusal}
+use Rattle.refusals.specs.declared.Refusal.the-variants.{SourceTooLong, WindowFull, TooManyBookmarks, NotLive, NoRoom, NotAsOpened}
+use Rattle.refusals.specs.Refusals.{number-of}
+
+-- the refusal that a number names; 24 stands for every number that names none
+abbrev pub named : ℕ → Refusal
+named n =
+    cond (eqb n 1) SourceTooLong (
+    cond (eqb n 2) WindowFull (
+    cond (eqb n 3) TooManyBookmarks (
+    cond (eqb n 4) NotLive (
+    cond (eqb n 15) NoRoom NotAsOpened))))
+
+pub read-back : (x : Refusal) → named (number-of x) ≡ x
+read-back SourceTooLong = refl
+read-back WindowFull = refl
+read-back TooManyBookmarks = refl
+read-back NotLive = refl
+read-back NoRoom = refl
+read-back NotAsOpened = refl
+
+pub number-once : (x y : Refusal) → number-of x ≡ number-of y → x ≡ y
+number-once x y e = sym (read-back x) ∙ ap named e ∙ read-back y

@@ -1,0 +1,29 @@
+-- What the variant of a scan's answer says: with a token the reader goes on, and without one it is at the end, since a sound reader is
+-- not refused. Assumes nothing.
+use Prim.Native.Nat.{ℕ}
+use mathlib.Core.Path.{_≡_, sym, _∙_}
+use mathlib.Core.Logic.{⊎-elim}
+use mathlib.Core.List.{List, [], _∷_}
+use native.Mathlib.Omega.{arith}
+use types.Run.{OneOf}
+use denote.Enum.Declared.{tagOf}
+use Rattle.tokens.specs.declared.Token.{Token}
+use Rattle.scanner.specs.declared.Reader.{Reader}
+use Rattle.scanner.specs.declared.Scan.{Scan}
+use Rattle.scanner.specs.declared.Scan.the-variants.{End, Found, Refused}
+use Rattle.scanner.specs.Reading.{scan-of}
+use Rattle.scanner.specs.Following.{Sound, Onward, Says, says}
+use Rattle.scanner.proofs.Scan.{the-type}
+
+module _ {src : List ℕ} {r : Reader} (h : Sound src r) {y : Scan} (e : y ≡ scan-of src r) where
+  pub onward : {x : Token} {next : Reader} → y ≡ Found x next → Onward src r x next
+  onward {x} {next} q = says src r h (Found x next) (sym q ∙ e)
+
+  -- the variants 0 and 2 of an answer are those without a token
+  pub at-end : OneOf (0 ∷ 2 ∷ []) (tagOf the-type y) → Says src r End
+  at-end k = go y (says src r h y e) k
+    where
+      go : (y : Scan) → Says src r y → OneOf (0 ∷ 2 ∷ []) (tagOf the-type y) → Says src r End
+      go End s k = s
+      go (Found x next) s k = absurd (⊎-elim (λ e. omega arith) (λ e. omega arith) k)
+      go (Refused n) s k = absurd s

@@ -1,0 +1,47 @@
+-- Computed examples of the record: document 01's cases of the window, and a switch of mode with tokens peeked.
+-- Assumes nothing.
+use Prim.Native.Nat.{ℕ}
+use mathlib.Core.Path.{_≡_, refl}
+use mathlib.Core.Bool.{true, false}
+use mathlib.Core.List.{List, [], _∷_}
+use Rattle.tokens.specs.declared.TokenIndex.{TokenIndex}
+use Rattle.tokens.specs.Tokens.{ascii}
+use Rattle.tokens.specs.Scan.{token}
+use Rattle.token_record.specs.Record.{Call, next-token, peek-token, has-more, bookmark, restore-bookmark, remove-bookmark, current-token-index, enter-hex-pattern-mode, Answer, none, truth, index, done, refused, run, opened, whole, bounded}
+use Rattle.token_record.specs.Record as record-of
+
+abbrev at : ℕ → TokenIndex
+at i = record { 0 = i }
+
+abbrev found : ℕ → ℕ → ℕ → Answer
+found k a e = record-of.token (token k a e)
+
+-- `a b c`: back at the earliest bookmark, which is removed while a later one lives
+rewound : run (whole (ascii "a b c")) (bookmark ∷ next-token ∷ next-token ∷ bookmark ∷ restore-bookmark (at 0) ∷ remove-bookmark (at 0) ∷ next-token ∷ next-token ∷ next-token ∷ []) opened
+    ≡ index (at 0) ∷ found 72 0 1 ∷ found 78 1 2 ∷ index (at 2) ∷ done ∷ done ∷ found 72 0 1 ∷ found 78 1 2 ∷ found 72 2 3 ∷ []
+unfolding run whole
+rewound = refl
+
+-- one slot on `a b`
+one-slot : run (bounded 1 (ascii "a b")) (peek-token 0 ∷ peek-token 1 ∷ next-token ∷ next-token ∷ []) opened
+    ≡ found 72 0 1 ∷ refused 2 ∷ found 72 0 1 ∷ found 78 1 2 ∷ []
+unfolding run bounded
+one-slot = refl
+
+-- no slot: only an end can be answered
+no-slot : (run (bounded 0 (ascii "a")) (has-more ∷ next-token ∷ bookmark ∷ []) opened ≡ refused 2 ∷ refused 2 ∷ index (at 0) ∷ [])
+    × (run (bounded 0 []) (has-more ∷ next-token ∷ peek-token 7 ∷ []) opened ≡ truth false ∷ none ∷ none ∷ [])
+unfolding run bounded
+no-slot = (refl, refl)
+
+-- a switch acts behind the last token fetched: `ab` was peeked, and `cd` is a byte
+switch-ahead : run (whole (ascii "ab cd")) (peek-token 1 ∷ enter-hex-pattern-mode ∷ next-token ∷ next-token ∷ next-token ∷ has-more ∷ current-token-index ∷ []) opened
+    ≡ found 78 2 3 ∷ done ∷ found 72 0 2 ∷ found 78 2 3 ∷ found 80 3 5 ∷ truth false ∷ index (at 3) ∷ []
+unfolding run whole
+switch-ahead = refl
+
+-- a bookmark that is not live, and one of two that are equal
+not-live : run (whole []) (restore-bookmark (at 0) ∷ bookmark ∷ bookmark ∷ remove-bookmark (at 0) ∷ restore-bookmark (at 0) ∷ remove-bookmark (at 0) ∷ remove-bookmark (at 0) ∷ []) opened
+    ≡ refused 4 ∷ index (at 0) ∷ index (at 0) ∷ done ∷ done ∷ done ∷ refused 4 ∷ []
+unfolding run whole
+not-live = refl

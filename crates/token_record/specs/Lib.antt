@@ -1,0 +1,3 @@
+-- What the window must answer (Record), and computed examples of it.
+pub mod Record
+pub mod Examples

@@ -1,0 +1,3 @@
+-- What the room holds (Room), and its laws.
+pub mod Room
+pub mod RoomLaws

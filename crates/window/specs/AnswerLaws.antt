@@ -1,0 +1,70 @@
+-- What the calls answer, case by case; the array that the code leaves is the padded list of the definition.
+-- Assumes nothing.
+use Prim.Native.Nat.{ℕ, suc, _+_, _-_, _≤_, _<_}
+use mathlib.Core.Path.{_≡_, sym, _∙_}
+use mathlib.Core.Bool.{true, false}
+use mathlib.Core.List.{List}
+use native.Mathlib.Omega.{arith}
+use lib.ListN.{length}
+use borrow.Author.Tests.{lt-ltb, le-ltb}
+use Rattle.tokens.specs.declared.Mode.the-variants.{HexPattern, HexJump}
+use Rattle.tokens.specs.declared.TokenIndex.{TokenIndex}
+use Rattle.scanner.specs.declared.Reader.{Reader}
+use Rattle.scanner.specs.Reading.{entered}
+use Rattle.token_record.specs.Record.{next-token, peek-token, bookmark, restore-bookmark, remove-bookmark, enter-hex-pattern-mode, enter-hex-jump-mode, Answer, index, done, refused, reply, bookmark-limit, member, without}
+use Rattle.bookmarks.specs.Bookmarks.{insert, inserted, removed}
+use Rattle.bookmarks.specs.HeldLaws.{Held, inserted-padded, removed-padded, length-insert, length-without}
+use Rattle.window.specs.declared.Window.{Window}
+use Rattle.window.specs.Window.{State, marks, moved, bookmarked, read-on, look, past, with-window, answered}
+
+module _ (s : State) where
+  pub took : (a : Answer) (w : Window) → a ≡ look 0 s → w ≡ past (s .window) → reply a (with-window s w) ≡ answered next-token s
+  unfolding answered
+  took a w e f = rw (e, f)
+
+  pub peeked : (n : ℕ) (a : Answer) → a ≡ look n s → reply a s ≡ answered (peek-token n) s
+  unfolding answered
+  peeked n a e = rw e
+
+  pub full : bookmark-limit ≤ s .window .live → reply (refused 3) s ≡ answered bookmark s
+  unfolding answered
+  full h = rw (le-ltb _ _ h)
+
+  pub not-restored : (i : TokenIndex) → member i (marks (s .window)) ≡ false → reply (refused 4) s ≡ answered (restore-bookmark i) s
+  unfolding answered
+  not-restored i e = rw e
+
+  pub not-removed : (i : TokenIndex) → member i (marks (s .window)) ≡ false → reply (refused 4) s ≡ answered (remove-bookmark i) s
+  unfolding answered
+  not-removed i e = rw e
+
+  pub restored : (i : TokenIndex) → member i (marks (s .window)) ≡ true → reply done (with-window s (moved i (s .window))) ≡ answered (restore-bookmark i) s
+  unfolding answered
+  restored i e = rw e
+
+  -- the switches: the reader's own
+  module _ (r : Reader) where
+    pub in-pattern-mode : r ≡ entered HexPattern (s .window .reader) → reply done (with-window s (read-on r (s .window .fetched .0) (s .window))) ≡ answered enter-hex-pattern-mode s
+    unfolding answered
+    in-pattern-mode e = rw e
+
+    pub in-jump-mode : r ≡ entered HexJump (s .window .reader) → reply done (with-window s (read-on r (s .window .fetched .0) (s .window))) ≡ answered enter-hex-jump-mode s
+    unfolding answered
+    in-jump-mode e = rw e
+
+  module _ {top : ℕ} (h : Held (s .window .live) top (s .window .bookmarks)) where
+    pub one-more : (a : List TokenIndex) → s .window .live < bookmark-limit → a ≡ inserted (s .window .live) (s .window .current) (s .window .bookmarks)
+        → reply (index (s .window .current)) (with-window s (bookmarked a (s .window .live + 1) (s .window))) ≡ answered bookmark s
+    unfolding answered
+    one-more a l e =
+        let w = s .window in
+        let n : w .live + 1 ≡ length (insert (w .current) (marks w)) = omega (arith, length-insert (w .current) (marks w), h .counted) in
+        rw (lt-ltb _ _ l, e, inserted-padded h (w .current) l, n)
+
+    pub one-less : (i : TokenIndex) (a : List TokenIndex) → member i (marks (s .window)) ≡ true → a ≡ removed (s .window .live) i (s .window .bookmarks)
+        → reply done (with-window s (bookmarked a (s .window .live - 1) (s .window))) ≡ answered (remove-bookmark i) s
+    unfolding answered
+    one-less i a m e =
+        let w = s .window in
+        let n : w .live - 1 ≡ length (without i (marks w)) = omega (arith, length-without i (marks w) m, h .counted) in
+        rw (m, e, removed-padded h i m, n)

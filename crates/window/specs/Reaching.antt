@@ -1,0 +1,39 @@
+-- Fetching for a call that wants n tokens, with its refusals: 24, then 2; and how the call goes on.
+-- Assumes nothing.
+use Prim.Native.Nat.{ℕ}
+use mathlib.Core.Bool.{cond}
+use mathlib.Core.List.{List}
+use lib.ListN.{length}
+use lib.Dec.{ltb}
+use Rattle.token_record.specs.Record.{Call, Answer, token, none, truth, index, done, refused, Reply, reply}
+use Rattle.fetching.specs.declared.Fetched.{Fetched}
+use Rattle.fetching.specs.declared.Fetched.the-variants.{Upto, Refused}
+use Rattle.fetching.specs.Fetching.{Outcome}
+use Rattle.window.specs.declared.Window.{Window}
+use Rattle.window.specs.declared.DoneAnswer.the-variants as of-done
+use Rattle.window.specs.declared.DoneGiven.{DoneGiven}
+use Rattle.window.specs.Window.{State, kept, sound, read-on, fetch, answered, done-reply}
+
+unfoldable pub reach : List ℕ → ℕ → State → Reply State
+reach src n s =
+    let v = fetch src n s in
+    cond (sound (length src) (length (s .room)) (s .window))
+    (cond (ltb (v .window .slots) (kept (v .window))) (reply (refused 2) s) (reply done v))
+    (reply (refused 24) s)
+
+-- a call that has reached its tokens answers; one that was refused has
+unfoldable pub proceed : Call → Answer → State → Reply State
+proceed c done v = answered c v
+proceed c (token x) v = reply (token x) v
+proceed c none v = reply none v
+proceed c (truth b) v = reply (truth b) v
+proceed c (index i) v = reply (index i) v
+proceed c (refused n) v = reply (refused n) v
+
+-- what the window makes of fetching's answer
+abbrev pub taken : Window → Fetched → DoneGiven
+taken w (Upto r i) = record { answer = of-done.Done; window = read-on r (i .0) w }
+taken w (Refused n) = record { answer = of-done.Refused n; window = w }
+
+abbrev pub turned : Window → Outcome → Reply State
+turned w o = done-reply (taken w (o .answer)) (o .room)
