@@ -3,7 +3,8 @@
 use Prim.Native.Nat.{ℕ}
 use mathlib.Core.Path.{_≡_, refl}
 use mathlib.Core.Bool.{true, false}
-use mathlib.Core.List.{List, [], _∷_}
+use mathlib.Core.List.{List, [], _∷_, _++_}
+use lib.ListN.{replicate}
 use Rattle.tokens.specs.declared.TokenIndex.{TokenIndex}
 use Rattle.tokens.specs.Tokens.{ascii}
 use Rattle.tokens.specs.Scan.{token}
@@ -33,6 +34,22 @@ no-slot : (run (bounded 0 (ascii "a")) (has-more ∷ next-token ∷ bookmark ∷
     × (run (bounded 0 []) (has-more ∷ next-token ∷ peek-token 7 ∷ []) opened ≡ truth false ∷ none ∷ none ∷ [])
 unfolding run bounded
 no-slot = (refl, refl)
+
+-- kept are the tokens from the least bookmark on, and from the current index where that is smaller
+kept-from-the-bookmark : run (bounded 2 (ascii "a b c")) (bookmark ∷ next-token ∷ next-token ∷ next-token ∷ remove-bookmark (at 0) ∷ next-token ∷ []) opened
+    ≡ index (at 0) ∷ found 72 0 1 ∷ found 78 1 2 ∷ refused 2 ∷ done ∷ found 72 2 3 ∷ []
+unfolding run bounded
+kept-from-the-bookmark = refl
+
+kept-from-the-current : run (bounded 2 (ascii "a b c")) (bookmark ∷ next-token ∷ next-token ∷ bookmark ∷ restore-bookmark (at 0) ∷ remove-bookmark (at 0) ∷ peek-token 2 ∷ next-token ∷ peek-token 1 ∷ []) opened
+    ≡ index (at 0) ∷ found 72 0 1 ∷ found 78 1 2 ∷ index (at 2) ∷ done ∷ done ∷ refused 2 ∷ found 72 0 1 ∷ found 72 2 3 ∷ []
+unfolding run bounded
+kept-from-the-current = refl
+
+-- 64 bookmarks, and one more
+too-many : run (whole []) (replicate 65 bookmark) opened ≡ replicate 64 (index (at 0)) ++ refused 3 ∷ []
+unfolding run whole
+too-many = refl
 
 -- a switch acts behind the last token fetched: `ab` was peeked, and `cd` is a byte
 switch-ahead : run (whole (ascii "ab cd")) (peek-token 1 ∷ enter-hex-pattern-mode ∷ next-token ∷ next-token ∷ next-token ∷ has-more ∷ current-token-index ∷ []) opened

@@ -43,14 +43,14 @@ module _ (s : State) where
   restored i e = rw e
 
   -- the switches: the reader's own
-  module _ (r : Reader) where
-    pub in-pattern-mode : r ≡ entered HexPattern (s .window .reader) → reply done (with-window s (read-on r (s .window .fetched .0) (s .window))) ≡ answered enter-hex-pattern-mode s
+  module _ (r : Reader) (w : Window) where
+    pub in-pattern-mode : r ≡ entered HexPattern (s .window .reader) → w ≡ read-on r (s .window .fetched .0) (s .window) → reply done (with-window s w) ≡ answered enter-hex-pattern-mode s
     unfolding answered
-    in-pattern-mode e = rw e
+    in-pattern-mode e f = rw (f, e)
 
-    pub in-jump-mode : r ≡ entered HexJump (s .window .reader) → reply done (with-window s (read-on r (s .window .fetched .0) (s .window))) ≡ answered enter-hex-jump-mode s
+    pub in-jump-mode : r ≡ entered HexJump (s .window .reader) → w ≡ read-on r (s .window .fetched .0) (s .window) → reply done (with-window s w) ≡ answered enter-hex-jump-mode s
     unfolding answered
-    in-jump-mode e = rw e
+    in-jump-mode e f = rw (f, e)
 
   module _ {top : ℕ} (h : Held (s .window .live) top (s .window .bookmarks)) where
     pub one-more : (a : List TokenIndex) → s .window .live < bookmark-limit → a ≡ inserted (s .window .live) (s .window .current) (s .window .bookmarks)

@@ -6,7 +6,7 @@ ghost use lib.ListN.{length};
 ghost use Rattle.token_record.specs.Record.{next-token, peek-token, has-more, bookmark, restore-bookmark, remove-bookmark, current-token-index, enter-hex-pattern-mode, enter-hex-jump-mode};
 ghost use Rattle.bookmarks.specs.Bookmarks.{held};
 ghost use Rattle.scanner.specs.Reading.{source-limit};
-ghost use Rattle.window.specs.Window.{state, fresh, fresh-at, sound, kept, look, past, step, open-of, token-told, token-reply, more-reply, index-reply, done-reply};
+ghost use Rattle.window.specs.Window.{state, fresh, fresh-at, read-on, sound, kept, look, past, step, open-of, token-told, token-reply, more-reply, index-reply, done-reply};
 ghost use Rattle.window.specs.SoundLaws.{Fit};
 ghost use Rattle.window.specs.Reaching.{reach};
 use bookmarks::BOOKMARKS;
@@ -191,8 +191,8 @@ impl Window {
                 window: self,
             };
         }
-        let marks = self.bookmarks;
-        if !bookmarks::has(marks, self.live, mark) {
+        let among = self.bookmarks;
+        if !bookmarks::has(among, self.live, mark) {
             return DoneGiven {
                 answer: DoneAnswer::Refused(Refusal::NotLive),
                 window: self,
@@ -261,11 +261,9 @@ impl Window {
             };
         }
         let in_pattern_mode = self.reader.enter_hex_pattern_mode();
-        let mut window = self;
-        window.reader = in_pattern_mode;
         DoneGiven {
             answer: DoneAnswer::Done,
-            window,
+            window: with_reader(self, in_pattern_mode),
         }
     }
 
@@ -280,11 +278,9 @@ impl Window {
             };
         }
         let in_jump_mode = self.reader.enter_hex_jump_mode();
-        let mut window = self;
-        window.reader = in_jump_mode;
         DoneGiven {
             answer: DoneAnswer::Done,
-            window,
+            window: with_reader(self, in_jump_mode),
         }
     }
 }
@@ -412,6 +408,15 @@ fn needed(far: usize) -> usize
     } else {
         SOURCE_LIMIT
     }
+}
+
+// The window with another reader, which goes on behind the last token fetched.
+fn with_reader(window: Window, reader: Reader) -> Window
+    ensures { λ r. ⌜ r ≡ read-on reader (window .fetched .0) window ⌝ }
+{
+    let mut moved = window;
+    moved.reader = reader;
+    moved
 }
 
 // The token n after the current one, where it has been fetched.
