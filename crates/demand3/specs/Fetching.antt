@@ -17,7 +17,7 @@ use Rattle.scanner.specs.Following.{Sound, ahead-count, ahead-far, ahead-sound}
 use Rattle.token_record.specs.Record.{Call, Record, wants, kept, fetch, outnumbers}
 use Rattle.token_room.specs.Room.{slots-in}
 use Rattle.window.specs.Window as of-window
-use Rattle.demand3.specs.ReadBack.{write-on}
+use Rattle.token_room.specs.ReadBack.{write-on}
 use Rattle.demand3.specs.Lowest.{below-up}
 use Rattle.demand3.specs.Standing.{reader-of, state-of, Good, kept-of}
 

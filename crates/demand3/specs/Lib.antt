@@ -1,6 +1,5 @@
 -- Demand 3: the window answers as the record that never drops a token (Demand3); and a refused call changes nothing (Refused).
 pub mod Sorting
-pub mod ReadBack
 pub mod Standing
 pub mod Fetching
 pub mod Lowest

@@ -1,19 +1,17 @@
 -- Demand 1: a refused call changes neither the window nor the lent room, whatever they hold. Refusals 24 and 2 give back what was
 -- handed in; 3 and 4 come from calls that want no token, and such a call, once sound, fetches none. Assumes nothing.
-use Prim.Native.Nat.{ℕ, _+_, _-_, _≤_}
+use Prim.Native.Nat.{ℕ, _+_, _≤_}
 use mathlib.Core.Path.{_≡_, refl, ap, _∙_}
 use mathlib.Core.Bool.{true}
 use mathlib.Core.List.{List}
-use native.Mathlib.Nat.{add-zero}
 use native.Mathlib.Omega.{arith}
 use lib.ListN.{length}
 use lib.Dec.{ltb}
 use Rattle.patterns.specs.Bools.{by-test}
-use Rattle.scanner.specs.Following.{ahead-none}
 use Rattle.token_record.specs.Record.{Call, next-token, peek-token, has-more, bookmark, restore-bookmark, remove-bookmark, current-token-index, enter-hex-pattern-mode, enter-hex-jump-mode, Answer, token, none, truth, index, done, refused, bookmark-limit, wants, member}
-use Rattle.token_room.specs.Room.{write-all}
 use Rattle.window.specs.Window.{State, marks, sound, fetch, look, overfull, answered, step}
 use Rattle.window.specs.SoundLaws.{fit}
+use Rattle.window.specs.WindowLaws.{fetch-none}
 
 -- an answer is the refusal n
 abbrev pub Refusal : ℕ → Answer → Type 0
@@ -26,13 +24,6 @@ Refusal n (refused k) = k ≡ n
 
 pub refusal : {n : ℕ} {a : Answer} → a ≡ refused n → Refusal n a
 refusal e = rw e refl
-
--- nothing is fetched where nothing is wanted
-fetch-none : (src : List ℕ) (s : State) → s .window .current .0 ≤ s .window .fetched .0 → fetch src 0 s ≡ s
-unfolding fetch write-all
-fetch-none src s h =
-    let e : s .window .current .0 + 0 - s .window .fetched .0 ≡ 0 = omega arith in
-    rw (e, ahead-none src (s .window .reader), add-zero)
 
 module _ (n : ℕ) (s : State) where
   look-given : (k : ℕ) → Refusal n (look k s) → ⊥
@@ -56,7 +47,7 @@ module _ (src : List ℕ) (c : Call) (s : State) (n : ℕ) where
       → answered c (fetch src (wants c) s) .after ≡ s
   own-still e h =
       let k = answered-still n (fetch src (wants c) s) c h in
-      k .1 ∙ ap (λ (m : ℕ). fetch src m s) (k .0) ∙ fetch-none src s (fit (length src) (length (s .room)) (s .window) e .current-low)
+      k .1 ∙ ap (λ (m : ℕ). fetch src m s) (k .0) ∙ fetch-none src s 0 (omega (arith, fit (length src) (length (s .room)) (s .window) e .current-low))
 
   pub refused-still : step src c s .answer ≡ refused n → step src c s .after ≡ s
   unfolding step

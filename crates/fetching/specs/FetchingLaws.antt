@@ -15,7 +15,7 @@ use Rattle.refusals.specs.declared.Refusal.the-variants.{WindowFull, NotAsOpene
 use Rattle.scanner.specs.declared.Reader.{Reader}
 use Rattle.scanner.specs.declared.Scan.the-variants.{End}
 use Rattle.scanner.specs.Reading.{source-limit, sound, Ahead, ahead}
-use Rattle.scanner.specs.Following.{Sound, Onward, Says, rest, still, ahead-none, ahead-end, ahead-more, ahead-count, rest-end, rest-more}
+use Rattle.scanner.specs.Following.{Sound, Onward, Says, rest, still, ahead-none, ahead-end, ahead-more, ahead-count, rest-end, rest-more, rest-most}
 use Rattle.token_room.specs.Room.{nth, write, write-all}
 use Rattle.token_room.specs.RoomLaws.{length-write}
 use Rattle.fetching.specs.declared.Stored.{Stored}
@@ -101,10 +101,13 @@ module _ {src : List ℕ} {r₀ : Reader} {n : ℕ} {r : Reader} {k : ℕ} (h : 
     pub counting-more : k ≤ 0 → true ≡ ltb n (length (rest src r₀))
     counting-more l = sym (lt-ltb n (length (rest src r₀)) (omega (arith, one-more, h .counted)))
 
--- No more tokens are ahead than are asked for, nor than are left.
+-- No more tokens are ahead than are asked for, nor than are left, which are no more than the bytes.
 module _ (src : List ℕ) (r : Reader) (need spare : ℕ) where
   pub few-fit : need ≤ spare → true ≡ leb (length ((ahead need src r) .tokens)) spare
   few-fit h = sym (le-leb (length ((ahead need src r) .tokens)) spare (omega (arith, ahead-count src r need)))
+
+  pub short-fits : Sound src r → length src - r .place .0 ≤ spare → true ≡ leb (length ((ahead need src r) .tokens)) spare
+  short-fits s h = sym (le-leb (length ((ahead need src r) .tokens)) spare (omega (arith, ahead-count src r need, rest-most src r s)))
 
   pub rest-fits : spare < need → (t : Bool) → t ≡ ltb spare (length (rest src r)) → not t ≡ leb (length ((ahead need src r) .tokens)) spare
   rest-fits h true e =

@@ -65,12 +65,15 @@ fn is_sound(src: &[u8], reader: Reader, first: TokenIndex) -> bool
     first.0 <= place
 }
 
-// Whether the tokens to fetch are at most `spare`. Only where more are asked for is it looked up whether there are so many.
+// Whether the tokens to fetch are at most `spare`. Only where more are asked for, and there are more bytes, is it looked up.
 fn fits(src: &[u8], reader: Reader, need: usize, spare: usize) -> bool
     requires { ⌜ Sound (now src) reader ⌝ }
     ensures { λ r. ⌜ r ≡ leb (length ((ahead need (now (src .entry)) reader) .tokens)) spare ⌝ }
 {
     if need <= spare {
+        return true;
+    }
+    if src.len() - (reader.place.0 as usize) <= spare {
         return true;
     }
     !has_more_than(src, reader, spare)

@@ -16,10 +16,10 @@ use Rattle.tokens.specs.declared.Scanned.the-variants.{Found}
 use Rattle.tokens.specs.Tokens.{tables-1}
 use Rattle.tokens.specs.Scan.{scan, list-from}
 use Rattle.tokens.specs.ScanLaws.{Step, scan-found, scan-kind, kinds-1}
-use Rattle.tokens.specs.ListLaws.{tile-count, list-tiles, first-all}
+use Rattle.tokens.specs.ListLaws.{first-all}
 use Rattle.scanner.specs.declared.Reader.{Reader}
 use Rattle.scanner.specs.Reading.{source-limit}
-use Rattle.scanner.specs.Following.{Sound, rest}
+use Rattle.scanner.specs.Following.{Sound, rest, rest-most}
 use Rattle.listing_text.specs.Listing.{line, lines, text}
 use Rattle.listing_text.specs.Numbers.{decimal-short, length-line, length-head, length-lines, length-text}
 
@@ -44,15 +44,12 @@ module _ (src : List ℕ) (r : Reader) (h : Sound src r) where
       let k : x .kind ≤ 82 = leb-true (x .kind) 82 (and-second (leb 1 (x .kind)) (leb (x .kind) 82) (scan-kind (between 1 82) tables-1 kinds-1 refl refl src at m x m′ e)) in
       record { kind = omega arith; start = omega (arith, s .starts, s .longer, s .within, h .limit); end = omega (arith, s .within, h .limit) }
 
-  count-most : length (rest src r) ≤ length src
-  count-most = omega (arith, tile-count (r .place .0) (length src) (rest src r) (list-tiles tables-1 src (r .place .0) (r .mode) (h .inside)))
-
   pub count-fits : length (rest src r) ≤ source-limit
-  count-fits = omega (arith, h .limit, count-most)
+  count-fits = omega (arith, h .limit, rest-most src r h)
 
   lines-most : length (lines (rest src r)) ≤ 15 * length src
   unfolding list-from
-  lines-most = omega (arith, lines-short (rest src r) (first-all tables-1 src Small small (length src) (r .place .0) (r .mode)), count-most)
+  lines-most = omega (arith, lines-short (rest src r) (first-all tables-1 src Small small (length src) (r .place .0) (r .mode)), rest-most src r h)
 
   pub lines-fit : length (lines (rest src r)) ≤ 15 * source-limit
   lines-fit = omega (arith, h .limit, lines-most)

@@ -12,7 +12,7 @@ use Rattle.tokens.specs.declared.Scanned.the-variants as scanned
 use Rattle.tokens.specs.Tokens.{tables-1}
 use Rattle.tokens.specs.Scan.{scan, onto, list-from}
 use Rattle.tokens.specs.ScanLaws.{Step, scan-found}
-use Rattle.tokens.specs.ListLaws.{enough, list-step, first-count, first-ends}
+use Rattle.tokens.specs.ListLaws.{tile-count, enough, list-step, list-tiles, first-count, first-ends}
 use Rattle.scanner.specs.declared.Reader.{Reader}
 use Rattle.scanner.specs.declared.Scan.{Scan}
 use Rattle.scanner.specs.declared.Scan.the-variants.{End, Found, Refused}
@@ -87,6 +87,10 @@ module _ (src : List ℕ) (r : Reader) where
     moved-says (scanned.Found x m) e =
         let s : Step src (r .place .0) x = scan-found tables-1 src (r .place .0) (r .mode) x m e in
         record { found = e; placed = refl; further = s .longer; sound = record { limit = h .limit; inside = s .within } }
+
+    -- no more tokens are left than bytes
+    pub rest-most : r .place .0 + length (rest src r) ≤ length src
+    rest-most = tile-count (r .place .0) (length src) (rest src r) (list-tiles tables-1 src (r .place .0) (r .mode) (h .inside))
 
     -- what a scan's answer says
     pub says : (y : Scan) → y ≡ scan-of src r → Says src r y

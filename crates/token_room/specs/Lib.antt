@@ -1,3 +1,4 @@
 -- What the room holds (Room), and its laws.
 pub mod Room
 pub mod RoomLaws
+pub mod ReadBack

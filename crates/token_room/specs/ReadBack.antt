@@ -8,13 +8,13 @@ use native.Mathlib.Nat.{add-zero, zero-add, mod-lt, mod-eq-of-lt, mod-add-mod, m
 use lib.ListN.{length, getD, set, length-set}
 use lib.Seq.{getD-set-same, getD-set-other, sets}
 use lib.Dec.{ltb}
-use borrow.Author.Tests.{ltb-true, ltb-false, le-leb}
+use borrow.Author.Tests.{ltb-true, ltb-false}
 use Rattle.patterns.specs.Bools.{by-test}
 use Rattle.tokens.specs.declared.Token.{Token}
 use Rattle.tokens.specs.Scan.{token}
 use Rattle.token_room.specs.declared.Slot.{Slot}
 use Rattle.token_room.specs.Room.{width, numbers, from-numbers, slots-in, slot-of, write-at, read-at, write, read, nth, write-all}
-use Rattle.token_room.specs.RoomLaws.{length-write}
+use Rattle.token_room.specs.RoomLaws.{write-slot, read-slot, length-write}
 
 -- indexes fewer than w apart have different slots
 module _ (w i j : ℕ) (h : i < j) (d : j < i + w) (e : i % w ≡ j % w) where
@@ -69,31 +69,22 @@ module _ (room : List ℕ) (s : Slot) (x : Token) where
       same-numbers (λ j. getD (sets room (s .0 * width) (numbers x)) (u .0 * width + j) 0) (λ j. getD room (u .0 * width + j) 0)
       (λ j k. sets-other (numbers x) room (s .0 * width) (u .0 * width + j) (λ n h e. d (omega (arith, e))))
 
--- where there is a slot, the test for it may be left out
-module _ (room : List ℕ) (i : ℕ) (h : 1 ≤ slots-in (length room)) where
-  read-slot : read room (nth i) ≡ read-at room (slot-of (nth i) (slots-in (length room)))
-  unfolding read
-  read-slot = rw (le-leb 1 (slots-in (length room)) h)
-
-  write-slot : (x : Token) → write room (nth i) x ≡ write-at room (slot-of (nth i) (slots-in (length room))) x
-  unfolding write
-  write-slot x = rw (le-leb 1 (slots-in (length room)) h)
-
 read-same : (room : List ℕ) (i : ℕ) (x : Token) → 1 ≤ slots-in (length room) → read (write room (nth i) x) (nth i) ≡ x
 read-same room i x h =
     let w = slots-in (length room) in
     let n : length (write room (nth i) x) ≡ length room = length-write room (nth i) x in
     let b : i % w < w = mod-lt i (omega arith) in
-    read-slot (write room (nth i) x) i (rw n h) ∙ rw (n, write-slot room i h x) (slot-same room (slot-of (nth i) w) x (omega arith))
+    sym (read-slot (write room (nth i) x) (nth i) refl (rw n h) refl)
+    ∙ rw (n, ← write-slot room (nth i) refl h refl x) (slot-same room (slot-of (nth i) w) x (omega arith))
 
 read-other : (room : List ℕ) (i j : ℕ) (x : Token) → i < j → j < i + slots-in (length room) → read (write room (nth j) x) (nth i) ≡ read room (nth i)
 read-other room i j x d g =
     let w = slots-in (length room) in
     let h : 1 ≤ w = omega arith in
     let n : length (write room (nth j) x) ≡ length room = length-write room (nth j) x in
-    read-slot (write room (nth j) x) i (rw n h)
-    ∙ rw (n, write-slot room j h x) (slot-other room (slot-of (nth j) w) x (slot-of (nth i) w) (slots-differ w i j d g))
-    ∙ sym (read-slot room i h)
+    sym (read-slot (write room (nth j) x) (nth i) refl (rw n h) refl)
+    ∙ rw (n, ← write-slot room (nth j) refl h refl x) (slot-other room (slot-of (nth j) w) x (slot-of (nth i) w) (slots-differ w i j d g))
+    ∙ read-slot room (nth i) refl h refl
 
 -- tokens behind index i, and not so many that its slot comes again
 read-before : (room : List ℕ) (i j : ℕ) (xs : List Token) → i < j → j + length xs ≤ i + slots-in (length room)
