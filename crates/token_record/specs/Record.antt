@@ -14,23 +14,16 @@ use Rattle.tokens.specs.Scan.{ends, list-first}
 
 -- The calls, under the Rust's names.
 pub data Call : Type 0 where
-  next-token : Call
+  next-token has-more bookmark current-token-index enter-hex-pattern-mode enter-hex-jump-mode : Call
   peek-token : ℕ → Call
-  has-more : Call
-  bookmark : Call
-  restore-bookmark : TokenIndex → Call
-  remove-bookmark : TokenIndex → Call
-  current-token-index : Call
-  enter-hex-pattern-mode : Call
-  enter-hex-jump-mode : Call
+  restore-bookmark remove-bookmark : TokenIndex → Call
 
 -- What they answer, in document 01's values; a refusal by its number.
 pub data Answer : Type 0 where
   token : Token → Answer
-  none : Answer
+  none done : Answer
   truth : Bool → Answer
   index : TokenIndex → Answer
-  done : Answer
   refused : ℕ → Answer
 
 -- An answer, and the state after it; the answers to calls, one after the other, and the state after all of them.
