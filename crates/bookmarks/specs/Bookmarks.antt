@@ -35,10 +35,9 @@ insert i [] = i ∷ []
 insert i (m ∷ ms) = cond (ltb (i .0) (m .0)) (i ∷ m ∷ ms) (m ∷ insert i ms)
 
 -- What the calls on the array give, whatever it holds.
-unfoldable pub low-of : ℕ → TokenIndex → List TokenIndex → TokenIndex
-low-of live i [] = i
-low-of zero i (m ∷ ms) = i
-low-of (suc live) i (m ∷ ms) = cond (ltb (m .0) (i .0)) m i
+unfoldable pub low-of : ℕ → TokenIndex → TokenIndex → TokenIndex
+low-of zero first i = i
+low-of (suc live) first i = cond (ltb (first .0) (i .0)) first i
 
 unfoldable pub inserted : ℕ → TokenIndex → List TokenIndex → List TokenIndex
 unfolding insert

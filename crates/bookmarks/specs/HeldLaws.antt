@@ -6,7 +6,7 @@ use mathlib.Core.Bool.{true, _&&_, false≢true}
 use mathlib.Core.List.{List, [], _∷_, _++_, append-assoc}
 use native.Mathlib.Nat.{add-zero}
 use native.Mathlib.Omega.{arith}
-use lib.ListN.{length, take, drop, replicate, length-append, length-take, length-drop, length-replicate, take-append-drop, replicate-append-replicate}
+use lib.ListN.{length, getD, take, drop, replicate, length-append, length-take, length-drop, length-replicate, take-append-drop, replicate-append-replicate}
 use lib.Seq.{take-append-seam, drop-append-seam, drop-append-add}
 use lib.Dec.{eqb, leb, ltb}
 use borrow.Author.Tests.{eqb-true, leb-true, ltb-true, ltb-false, eq-eqb, le-leb, lt-ltb}
@@ -70,12 +70,13 @@ in-order-least low top c (m ∷ ms) e =
     let h : low ≤ m .0 = leb-true low (m .0) (and-first (leb low (m .0)) (in-order (m .0) top ms) e) in
     omega (arith, in-order-least (m .0) top c ms (and-second (leb low (m .0)) (in-order (m .0) top ms) e))
 
-first-least : (c : TokenIndex) (live top : ℕ) (a : List TokenIndex) → in-order 0 top (take live a) ≡ true → low-of live c a .0 ≡ least (c .0) (take live a)
+first-least : (c : TokenIndex) (live top : ℕ) (a : List TokenIndex) → live ≤ length a → in-order 0 top (take live a) ≡ true
+    → low-of live (getD a 0 unused-place) c .0 ≡ least (c .0) (take live a)
 unfolding low-of least in-order
-first-least c zero top [] e = refl
-first-least c (suc n) top [] e = refl
-first-least c zero top (m ∷ ms) e = refl
-first-least c (suc n) top (m ∷ ms) e =
+first-least c zero top [] h e = refl
+first-least c (suc n) top [] h e = absurd (omega arith)
+first-least c zero top (m ∷ ms) h e = refl
+first-least c (suc n) top (m ∷ ms) h e =
     let z : min (m .0) (least (c .0) (take n ms)) ≡ min (m .0) (c .0)
     = in-order-least (m .0) top (c .0) (take n ms) (and-second (leb 0 (m .0)) (in-order (m .0) top (take n ms)) e) in
     by-test (ltb (m .0) (c .0)) (λ t. rw t (omega (arith, ltb-true (m .0) (c .0) t))) (λ t. rw t (omega (arith, ltb-false (m .0) (c .0) t)))
@@ -93,8 +94,8 @@ length-without i (m ∷ ms) e = by-test (eqb (m .0) (i .0)) (λ t. rw t) (λ t. 
 
 -- The least is found at the front; and what comes or goes.
 module _ {live top : ℕ} {a : List TokenIndex} (h : Held live top a) where
-  pub low-least : (c : TokenIndex) → low-of live c a .0 ≡ least (c .0) (take live a)
-  low-least c = first-least c live top a (h .ordered)
+  pub low-least : (c : TokenIndex) → low-of live (getD a 0 unused-place) c .0 ≡ least (c .0) (take live a)
+  low-least c = first-least c live top a (omega (arith, h .few, h .long)) (h .ordered)
 
   behind : (n : ℕ) → drop (live + n) a ≡ drop n (replicate (bookmark-limit - live) unused-place)
   behind n =

@@ -26,17 +26,14 @@ module _ (live top : ℕ) (a : List TokenIndex) (long : length a ≡ bookmark-li
   held-tests h = rw (eq-eqb (length a) bookmark-limit long, le-leb live bookmark-limit h)
 
 -- the low of none, and of some
-pub low-none : (i : TokenIndex) (a : List TokenIndex) → low-of 0 i a ≡ i
+pub low-none : (first i : TokenIndex) → low-of 0 first i ≡ i
 unfolding low-of
-low-none i [] = refl
-low-none i (m ∷ ms) = refl
+low-none first i = refl
 
-pub low-first : (live : ℕ) (i : TokenIndex) (a : List TokenIndex) → 0 < live → 0 < length a
-    → low-of live i a ≡ cond (ltb (getD a 0 unused-place .0) (i .0)) (getD a 0 unused-place) i
+pub low-first : (live : ℕ) (first i : TokenIndex) → 0 < live → low-of live first i ≡ cond (ltb (first .0) (i .0)) first i
 unfolding low-of
-low-first zero i a h k = absurd (omega arith)
-low-first (suc n) i [] h k = absurd (omega arith)
-low-first (suc n) i (m ∷ ms) h k = refl
+low-first zero first i h = absurd (omega arith)
+low-first (suc n) first i h = refl
 
 -- one is live where its place is below the number of places
 found-below : (live : ℕ) (i : TokenIndex) (a : List TokenIndex) → ltb (find-in live i a) (length a) ≡ member i (take live a)

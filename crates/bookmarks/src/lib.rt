@@ -57,14 +57,13 @@ fn is_unused(bookmarks: [TokenIndex; 64], live: u32) -> bool
     zero
 }
 
-// The smaller of an index and the first live bookmark.
-pub fn low(bookmarks: [TokenIndex; 64], live: u32, current: TokenIndex) -> TokenIndex
-    ensures { λ r. ⌜ r ≡ low-of live current bookmarks ⌝ }
+// The smaller of an index and the first live bookmark, if there is one.
+pub fn low(first: TokenIndex, live: u32, current: TokenIndex) -> TokenIndex
+    ensures { λ r. ⌜ r ≡ low-of live first current ⌝ }
 {
     if live == 0 {
         return current;
     }
-    let first = bookmarks[0];
     if first.0 < current.0 { first } else { current }
 }
 

@@ -10,8 +10,10 @@ use Rattle.fetching.specs.declared.Fetched.{Fetched}
 use Rattle.fetching.specs.declared.Fetched.the-variants.{Upto, Refused}
 use Rattle.fetching.specs.Fetching.{Outcome}
 use Rattle.window.specs.declared.Window.{Window}
+use Rattle.window.specs.declared.DoneAnswer.{DoneAnswer}
 use Rattle.window.specs.declared.DoneAnswer.the-variants as of-done
 use Rattle.window.specs.declared.DoneGiven.{DoneGiven}
+use Rattle.window.specs.declared.Reached.{Reached}
 use Rattle.window.specs.Window.{State, kept, sound, read-on, fetch, answered, done-reply}
 
 unfoldable pub reach : List ℕ → ℕ → State → Reply State
@@ -37,3 +39,10 @@ taken w (Refused n) = record { answer = of-done.Refused n; window = w }
 
 abbrev pub turned : Window → Outcome → Reply State
 turned w o = done-reply (taken w (o .answer)) (o .room)
+
+-- what the code's answer makes of the window; and nothing reached
+abbrev pub reached : Window → Reached → DoneGiven
+reached w r = record { answer = r .answer; window = read-on (r .reader) (r .fetched .0) w }
+
+abbrev pub still : Window → DoneAnswer → Reached
+still w a = record { answer = a; reader = w .reader; fetched = w .fetched }

@@ -113,8 +113,11 @@ fetch src n s =
     state (read-on (a .reader) (w .fetched .0 + length (a .tokens)) w) (write-all (s .room) (w .fetched .0) (a .tokens))
 
 -- The token n after the current one, read from its slot; whether there is a current one; the window past it.
+abbrev pub seen : ℕ → ℕ → ℕ → List ℕ → Answer
+seen current fetched n room = cond (ltb (current + n) fetched) (token (read room (nth (current + n)))) none
+
 abbrev pub look : ℕ → State → Answer
-look n s = cond (ltb (s .window .current .0 + n) (s .window .fetched .0)) (token (read (s .room) (nth (s .window .current .0 + n)))) none
+look n s = seen (s .window .current .0) (s .window .fetched .0) n (s .room)
 
 abbrev pub more : Window → Bool
 more w = ltb (w .current .0) (w .fetched .0)

@@ -6,9 +6,9 @@ ghost use lib.ListN.{length};
 ghost use Rattle.token_record.specs.Record.{next-token, peek-token, has-more, bookmark, restore-bookmark, remove-bookmark, current-token-index, enter-hex-pattern-mode, enter-hex-jump-mode};
 ghost use Rattle.bookmarks.specs.Bookmarks.{held};
 ghost use Rattle.scanner.specs.Reading.{source-limit};
-ghost use Rattle.window.specs.Window.{state, fresh, fresh-at, read-on, sound, kept, look, past, step, open-of, token-told, token-reply, more-reply, index-reply, done-reply};
+ghost use Rattle.window.specs.Window.{state, fresh, fresh-at, read-on, sound, kept, seen, past, step, open-of, token-told, token-reply, more-reply, index-reply, done-reply};
 ghost use Rattle.window.specs.SoundLaws.{Fit};
-ghost use Rattle.window.specs.Reaching.{reach};
+ghost use Rattle.window.specs.Reaching.{reached, still, reach};
 use bookmarks::BOOKMARKS;
 use fetching::Fetched;
 use refusals::Refusal;
@@ -79,6 +79,13 @@ pub struct DoneGiven {
     pub window: Window,
 }
 
+// What reaching a token comes to: whether it was refused, and the reader and the number of tokens fetched after it.
+pub struct Reached {
+    pub answer: DoneAnswer,
+    pub reader: Reader,
+    pub fetched: TokenIndex,
+}
+
 impl Window {
     // A window at the start of a source, in normal mode.
     pub fn open(src: &[u8], room: &[u32]) -> DoneGiven
@@ -101,11 +108,11 @@ impl Window {
         ensures { λ r. ⌜ token-reply r (now (room .exit)) ≡ step (now (src .entry)) next-token (state self (now (room .entry))) ⌝ }
     {
         let reached = reach(self, src, room, 0);
-        let window = reached.window;
+        let window = read_on(self, reached.reader, reached.fetched);
         let answer = reached.answer;
         match answer {
             DoneAnswer::Done => TokenGiven {
-                answer: look(window, room, 0),
+                answer: look(window.current, window.fetched, room, 0),
                 window: past(window),
             },
             DoneAnswer::Refused(refusal) => TokenGiven {
@@ -120,11 +127,11 @@ impl Window {
         ensures { λ r. ⌜ token-reply r (now (room .exit)) ≡ step (now (src .entry)) (peek-token n) (state self (now (room .entry))) ⌝ }
     {
         let reached = reach(self, src, room, n);
-        let window = reached.window;
+        let window = read_on(self, reached.reader, reached.fetched);
         let answer = reached.answer;
         match answer {
             DoneAnswer::Done => TokenGiven {
-                answer: look(window, room, n),
+                answer: look(window.current, window.fetched, room, n),
                 window,
             },
             DoneAnswer::Refused(refusal) => TokenGiven {
@@ -139,7 +146,7 @@ impl Window {
         ensures { λ r. ⌜ more-reply r (now (room .exit)) ≡ step (now (src .entry)) has-more (state self (now (room .entry))) ⌝ }
     {
         let reached = reach(self, src, room, 0);
-        let window = reached.window;
+        let window = read_on(self, reached.reader, reached.fetched);
         let answer = reached.answer;
         match answer {
             DoneAnswer::Done => MoreGiven {
@@ -263,7 +270,7 @@ impl Window {
         let in_pattern_mode = self.reader.enter_hex_pattern_mode();
         DoneGiven {
             answer: DoneAnswer::Done,
-            window: with_reader(self, in_pattern_mode),
+            window: read_on(self, in_pattern_mode, self.fetched),
         }
     }
 
@@ -280,7 +287,7 @@ impl Window {
         let in_jump_mode = self.reader.enter_hex_jump_mode();
         DoneGiven {
             answer: DoneAnswer::Done,
-            window: with_reader(self, in_jump_mode),
+            window: read_on(self, in_jump_mode, self.fetched),
         }
     }
 }
@@ -347,55 +354,55 @@ fn kept(window: Window) -> usize
     requires { ⌜ (held (window .live) (window .fetched .0) (window .bookmarks) ≡ true) × (window .current .0 ≤ window .fetched .0) ⌝ }
     ensures { λ r. ⌜ r ≡ kept window ⌝ }
 {
-    let marks = window.bookmarks;
-    let low = bookmarks::low(marks, window.live, window.current);
+    let first = window.bookmarks[0];
+    let low = bookmarks::low(first, window.live, window.current);
     (window.fetched.0 - low.0) as usize
 }
 
 // Tests the window, and fetches up to the token n after the current one.
-fn reach(window: Window, src: &[u8], room: &mut [u32], n: usize) -> DoneGiven
-    ensures { λ r. ⌜ done-reply r (now (room .exit)) ≡ reach (now (src .entry)) (suc n) (state window (now (room .entry))) ⌝ }
+fn reach(window: Window, src: &[u8], room: &mut [u32], n: usize) -> Reached
+    ensures { λ r. ⌜ done-reply (reached window r) (now (room .exit)) ≡ reach (now (src .entry)) (suc n) (state window (now (room .entry))) ⌝ }
 {
     if is_sound(window, src.len(), room.len()) {
         fetch(window, src, room, n)
     } else {
-        DoneGiven {
-            answer: DoneAnswer::Refused(Refusal::NotAsOpened),
-            window,
-        }
+        still(window, DoneAnswer::Refused(Refusal::NotAsOpened))
     }
 }
 
 // Fetches up to the token n after the current one. Where that one is there, nothing is to be fetched.
-fn fetch(window: Window, src: &[u8], room: &mut [u32], n: usize) -> DoneGiven
+fn fetch(window: Window, src: &[u8], room: &mut [u32], n: usize) -> Reached
     requires { ⌜ Fit (length (now src)) (length (now room)) window ⌝ }
-    ensures { λ r. ⌜ done-reply r (now (room .exit)) ≡ reach (now (src .entry)) (suc n) (state window (now (room .entry))) ⌝ }
+    ensures { λ r. ⌜ done-reply (reached window r) (now (room .exit)) ≡ reach (now (src .entry)) (suc n) (state window (now (room .entry))) ⌝ }
 {
     let ready = (window.fetched.0 - window.current.0) as usize;
     if n < ready {
-        return DoneGiven {
-            answer: DoneAnswer::Done,
-            window,
-        };
+        return still(window, DoneAnswer::Done);
     }
     let need = needed(n - ready);
     let spare = window.slots - kept(window);
     let reader = window.reader;
     let first = window.fetched;
     match fetching::fetch(src, reader, room, first, need, spare) {
-        Fetched::Upto(behind, next) => {
-            let mut moved = window;
-            moved.reader = behind;
-            moved.fetched = next;
-            DoneGiven {
-                answer: DoneAnswer::Done,
-                window: moved,
-            }
-        }
-        Fetched::Refused(refusal) => DoneGiven {
-            answer: DoneAnswer::Refused(refusal),
-            window,
+        Fetched::Upto(behind, next) => Reached {
+            answer: DoneAnswer::Done,
+            reader: behind,
+            fetched: next,
         },
+        Fetched::Refused(refusal) => still(window, DoneAnswer::Refused(refusal)),
+    }
+}
+
+// Nothing fetched.
+fn still(window: Window, answer: DoneAnswer) -> Reached
+    ensures { λ r. ⌜ r ≡ still window answer ⌝ }
+{
+    let reader = window.reader;
+    let fetched = window.fetched;
+    Reached {
+        answer,
+        reader,
+        fetched,
     }
 }
 
@@ -410,23 +417,24 @@ fn needed(far: usize) -> usize
     }
 }
 
-// The window with another reader, which goes on behind the last token fetched.
-fn with_reader(window: Window, reader: Reader) -> Window
-    ensures { λ r. ⌜ r ≡ read-on reader (window .fetched .0) window ⌝ }
+// The window with another reader and number of tokens fetched.
+fn read_on(window: Window, reader: Reader, fetched: TokenIndex) -> Window
+    ensures { λ r. ⌜ r ≡ read-on reader (fetched .0) window ⌝ }
 {
     let mut moved = window;
     moved.reader = reader;
+    moved.fetched = fetched;
     moved
 }
 
 // The token n after the current one, where it has been fetched.
-fn look(window: Window, room: &[u32], n: usize) -> TokenAnswer
-    requires { ⌜ window .current .0 ≤ window .fetched .0 ⌝ }
-    ensures { λ r. ⌜ token-told r ≡ look n (state window (now (room .entry))) ⌝ }
+fn look(current: TokenIndex, fetched: TokenIndex, room: &[u32], n: usize) -> TokenAnswer
+    requires { ⌜ current .0 ≤ fetched .0 ⌝ }
+    ensures { λ r. ⌜ token-told r ≡ seen (current .0) (fetched .0) n (now (room .entry)) ⌝ }
 {
-    let ready = (window.fetched.0 - window.current.0) as usize;
+    let ready = (fetched.0 - current.0) as usize;
     if n < ready {
-        let i = TokenIndex(window.current.0 + n as u32);
+        let i = TokenIndex(current.0 + n as u32);
         TokenAnswer::Token(token_room::read(room, i))
     } else {
         TokenAnswer::None

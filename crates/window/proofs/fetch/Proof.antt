@@ -18,10 +18,14 @@ sub-ready c = search needs
 cast-ready : tie.Need-cast-ready
 cast-ready c = search needs
 
+still-requires : tie.Need-still-requires
+still-requires c κs = search needs
+
 returns : tie.Need-returns
 returns c =
-    let s = c .before .before .before .before in
-    reached-now (s .args .src .now) (state (s .args .window) (s .args .room .now)) (s .pre) _ (omega arith)
+    let s = c .before .before .before .before .before in
+    rw (c .still .ensures)
+    (reached-now (s .args .src .now) (state (s .args .window) (s .args .room .now)) (s .pre) _ (omega arith))
 
 needed-requires : tie.Need-needed-requires
 needed-requires c κs = search needs
@@ -40,6 +44,9 @@ enum-known-behind c = search needs
 
 enum-known-refusal : tie.Need-enum-known-refusal
 enum-known-refusal c = search needs
+
+still-requires-2 : tie.Need-still-requires-2
+still-requires-2 c κs = search needs
 
 same-length : tie.Need-same-length
 same-length c = search needs
@@ -61,7 +68,7 @@ same-length-2 : tie.Need-same-length-2
 same-length-2 c = search needs
 
 returns-3 : tie.Need-returns-3
-returns-3 c = gave (c .before .before .before .before .before) _ (c .before .refusal .given .1)
+returns-3 c = rw (c .still2 .ensures) (gave (c .before .before .before .before .before .before) _ (c .before .before .refusal .given .1))
 
 pub fetch-spec : {M : Type 1} → statement M
 fetch-spec =
@@ -69,6 +76,7 @@ fetch-spec =
     (tie.spec
     sub-ready
     cast-ready
+    still-requires
     returns
     needed-requires
     kept-requires
@@ -76,6 +84,7 @@ fetch-spec =
     fetch-requires
     enum-known-behind
     enum-known-refusal
+    still-requires-2
     same-length
     returns-2
     same-length-2

@@ -20,10 +20,13 @@ same-length c = search needs
 returns : tie.Need-returns
 returns c = search needs
 
+still-requires : tie.Need-still-requires
+still-requires c κs = search needs
+
 returns-2 : tie.Need-returns-2
 returns-2 c =
-    let a = c .before .before .before .before .args in
-    not-reached (a .src .now) (state (a .window) (a .room .now)) _ (sym (c .before .is-sound .ensures) ∙ c .if1 .left)
+    let a = c .before .before .before .before .before .args in
+    rw (c .still .ensures) (not-reached (a .src .now) (state (a .window) (a .room .now)) _ (sym (c .before .before .is-sound .ensures) ∙ c .before .if1 .left))
 
 pub reach-spec : {M : Type 1} → statement M
-reach-spec = tie.close (tie.spec is-sound-requires fetch-requires same-length returns returns-2)
+reach-spec = tie.close (tie.spec is-sound-requires fetch-requires still-requires same-length returns returns-2)

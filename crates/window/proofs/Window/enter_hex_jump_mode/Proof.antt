@@ -27,15 +27,15 @@ sound c = fit _ _ _ (sym (c .before .is-sound .ensures) ∙ not-false _ (c .if1 
 enter-hex-jump-mode-requires : tie.Need-enter-hex-jump-mode-requires
 enter-hex-jump-mode-requires c κs = search needs
 
-with-reader-requires : tie.Need-with-reader-requires
-with-reader-requires c κs = search needs
+read-on-requires : tie.Need-read-on-requires
+read-on-requires c κs = search needs
 
 returns-2 : tie.Need-returns-2
 returns-2 c =
     let a = c .before .before .before .before .before .before .args in
     let s = state (a .self) (a .room .now) in
-    in-jump-mode s _ _ (c .before .enter-hex-jump-mode .ensures) (c .with-reader .ensures) ∙ answered-now (a .src .now) s enter-hex-jump-mode refl (sound (c .before .before))
+    in-jump-mode s _ _ (c .before .enter-hex-jump-mode .ensures) (c .read-on .ensures) ∙ answered-now (a .src .now) s enter-hex-jump-mode refl (sound (c .before .before))
 
 pub enter-hex-jump-mode-spec : {M : Type 1} → statement M
 enter-hex-jump-mode-spec =
-    tie.close (tie.spec is-sound-requires returns enter-hex-jump-mode-requires with-reader-requires returns-2)
+    tie.close (tie.spec is-sound-requires returns enter-hex-jump-mode-requires read-on-requires returns-2)

@@ -1,16 +1,29 @@
 -- What `reach` gives is what the call goes on from; then `look` and `past`.
 -- Assumes nothing.
-use mathlib.Core.Path.{refl, _∙_}
+use mathlib.Core.Path.{_≡_, refl, ap, _∙_}
 use borrow.Author.Needs.{needs}
-use Rattle.token_record.specs.Record.{next-token}
-use Rattle.window.specs.Window.{state}
+use Rattle.token_record.specs.Record.{reply, next-token}
+use Rattle.window.specs.declared.Window.{Window}
+use Rattle.window.specs.Window.{state, done-told, done-reply}
+use Rattle.window.specs.Reaching.{reach}
 use Rattle.window.specs.WindowLaws.{went-on, refused-there, reached-low}
 use Rattle.window.specs.AnswerLaws.{took}
 use Rattle.window.proofs.Window.next_token.Statement.{statement}
 use Rattle.window.proofs.Window.next_token.Tie as tie
 
+-- the window that was read on, with the answer, is what is reached
+came : (c : tie.After-read-on)
+    → done-reply (record { answer = c .before .before .before .reach .result .answer; window = c .read-on .result }) (c .before .before .before .reach .last .1 .1 .0)
+    ≡ reach (c .before .before .before .before .before .before .before .args .src .now) 1 (state (c .before .before .before .before .before .before .before .args .self) (c .before .before .before .before .before .before .before .args .room .now))
+came c =
+    let g = c .before .before .before .reach in
+    ap (λ (w : Window). reply (done-told (g .result .answer)) (state w (g .last .1 .1 .0))) (c .read-on .ensures) ∙ g .ensures
+
 reach-requires : tie.Need-reach-requires
 reach-requires c κs = search needs
+
+read-on-requires : tie.Need-read-on-requires
+read-on-requires c κs = search needs
 
 enum-told : tie.Need-enum-told
 enum-told c = search needs
@@ -18,8 +31,7 @@ enum-told c = search needs
 look-requires : tie.Need-look-requires
 look-requires c κs =
     let a = c .before .before .before .before .before .before .before .before .before .before .args in
-    let g = c .before .before .before .before .before .before .reach in
-    reached-low (a .src .now) (state (a .self) (a .room .now)) 1 (g .result) (g .last .1 .1 .0) (g .ensures) (c .before .enum-told .given .1)
+    reached-low (a .src .now) (state (a .self) (a .room .now)) 1 _ _ (came (c .before .before .before)) (c .before .enum-told .given .1)
 
 past-requires : tie.Need-past-requires
 past-requires c κs = search needs
@@ -33,9 +45,8 @@ same-length c = search needs
 returns : tie.Need-returns
 returns c =
     let a = c .before .before .before .before .before .before .before .before .before .before .before .before .args in
-    let g = c .before .before .before .before .before .before .before .before .reach in
-    took (state (g .result .window) (g .last .1 .1 .0)) _ _ (c .before .look .ensures) (c .past .ensures)
-    ∙ went-on (a .src .now) (state (a .self) (a .room .now)) next-token 0 refl (g .result) (g .last .1 .1 .0) (g .ensures) (c .before .before .before .enum-told .given .1)
+    took (state (c .before .before .before .before .before .read-on .result) (c .before .before .before .before .before .before .before .before .reach .last .1 .1 .0)) _ _ (c .before .look .ensures) (c .past .ensures)
+    ∙ went-on (a .src .now) (state (a .self) (a .room .now)) next-token 0 refl _ _ (came (c .before .before .before .before .before)) (c .before .before .before .enum-told .given .1)
 
 same-length-2 : tie.Need-same-length-2
 same-length-2 c = search needs
@@ -43,14 +54,14 @@ same-length-2 c = search needs
 returns-2 : tie.Need-returns-2
 returns-2 c =
     let a = c .before .before .before .before .before .before .before .before .before .before .args in
-    let g = c .before .before .before .before .before .before .reach in
-    refused-there (a .src .now) (state (a .self) (a .room .now)) next-token 0 refl (g .result) (g .last .1 .1 .0) (g .ensures) _ (c .before .answer .given .1)
+    refused-there (a .src .now) (state (a .self) (a .room .now)) next-token 0 refl _ _ (came (c .before .before .before)) _ (c .before .answer .given .1)
 
 pub next-token-spec : {M : Type 1} → statement M
 next-token-spec =
     tie.close
     (tie.spec
     reach-requires
+    read-on-requires
     enum-told
     look-requires
     past-requires
