@@ -38,17 +38,20 @@ module _ (s : State) where
   unfolding answered
   not-removed i e = rw e
 
-  pub restored : (i : TokenIndex) → member i (marks (s .window)) ≡ true → reply done (with-window s (moved i (s .window))) ≡ answered (restore-bookmark i) s
+  pub restored : (i : TokenIndex) → member i (marks (s .window)) ≡ true
+      → reply done (with-window s (moved i (s .window))) ≡ answered (restore-bookmark i) s
   unfolding answered
   restored i e = rw e
 
   -- the switches: the reader's own
   module _ (r : Reader) (w : Window) where
-    pub in-pattern-mode : r ≡ entered HexPattern (s .window .reader) → w ≡ read-on r (s .window .fetched .0) (s .window) → reply done (with-window s w) ≡ answered enter-hex-pattern-mode s
+    pub in-pattern-mode : r ≡ entered HexPattern (s .window .reader) → w ≡ read-on r (s .window .fetched .0) (s .window)
+        → reply done (with-window s w) ≡ answered enter-hex-pattern-mode s
     unfolding answered
     in-pattern-mode e f = rw (f, e)
 
-    pub in-jump-mode : r ≡ entered HexJump (s .window .reader) → w ≡ read-on r (s .window .fetched .0) (s .window) → reply done (with-window s w) ≡ answered enter-hex-jump-mode s
+    pub in-jump-mode : r ≡ entered HexJump (s .window .reader) → w ≡ read-on r (s .window .fetched .0) (s .window)
+        → reply done (with-window s w) ≡ answered enter-hex-jump-mode s
     unfolding answered
     in-jump-mode e f = rw (f, e)
 

@@ -28,13 +28,15 @@ module _ (src room : List ℕ) where
       by-test (leb (length src) source-limit) (λ p. leb-true _ _ p)
       (λ p. let q = rw p at e in let z : _≡_ {A = ℕ} 0 1 = cc in absurd (omega arith))
 
-  pub ready : (r : Reader) (w : Window) → Ready r ≡ reading.open-of src → w ≡ fresh-at r (length src) (slots-in (length room)) → reply done (state w room) ≡ open-of src room
+  pub ready : (r : Reader) (w : Window) → Ready r ≡ reading.open-of src → w ≡ fresh-at r (length src) (slots-in (length room))
+      → reply done (state w room) ≡ open-of src room
   ready r w e f =
       by-test (leb (length src) source-limit)
       (λ p. let q = rw p at e in let k : r ≡ record { place = record { 0 = 0 }; mode = Normal } = cc in rw (p, f, k))
       (λ p. let q = rw p at e in let z : _≡_ {A = ℕ} 0 1 = cc in absurd (omega arith))
 
-  pub not-ready : (n : Refusal) (w : Window) → Refused n ≡ reading.open-of src → w ≡ fresh 0 0 → reply (refused (number-of n)) (state w room) ≡ open-of src room
+  pub not-ready : (n : Refusal) (w : Window) → Refused n ≡ reading.open-of src → w ≡ fresh 0 0
+      → reply (refused (number-of n)) (state w room) ≡ open-of src room
   not-ready n w e f =
       by-test (leb (length src) source-limit)
       (λ p. let q = rw p at e in let z : _≡_ {A = ℕ} 0 1 = cc in absurd (omega arith))

@@ -1,7 +1,7 @@
 -- The tests of refusal 24 as facts, and back; one that fails is enough for the refusal.
 -- Assumes nothing.
 use Prim.Native.Nat.{ℕ, zero, suc, _≤_}
-use mathlib.Core.Path.{_≡_, sym}
+use mathlib.Core.Path.{_≡_, sym, _∙_}
 use mathlib.Core.Bool.{Bool, true, false, and-true}
 use mathlib.Core.List.{List, [], _∷_}
 use lib.ListN.{getD}
@@ -47,11 +47,6 @@ module _ (bytes len : ℕ) (w : Window) where
         inside = leb-true _ _ (h .1 .1 .1 .1 .1 .1 .1 .0);
       }
 
-  pub fit-sound : Fit bytes len w → sound bytes len w ≡ true
-  unfolding sound
-  fit-sound f =
-      rw (le-leb _ _ (f .limit), eq-eqb _ _ (f .bytes-same), eq-eqb _ _ (f .slots-same), f .held-marks, le-leb _ _ (f .current-low), le-leb _ _ (f .room), le-leb _ _ (f .fetched-low), le-leb _ _ (f .inside))
-
   -- one test that fails
   pub unsound : (k : ℕ) → getD (tests bytes len w) k true ≡ false → false ≡ sound bytes len w
   unfolding sound
@@ -65,3 +60,7 @@ module _ (bytes len : ℕ) (w : Window) where
   sound-last limit bytes-same slots-same held-marks current-low room fetched-low =
       rw (le-leb _ _ limit, eq-eqb _ _ bytes-same, eq-eqb _ _ slots-same, held-marks, le-leb _ _ current-low, le-leb _ _ room, le-leb _ _ fetched-low)
       (sym (and-true (leb (w .reader .place .0) bytes)))
+
+  pub fit-sound : Fit bytes len w → sound bytes len w ≡ true
+  fit-sound f =
+      sym (sound-last (f .limit) (f .bytes-same) (f .slots-same) (f .held-marks) (f .current-low) (f .room) (f .fetched-low)) ∙ le-leb _ _ (f .inside)

@@ -35,7 +35,8 @@ ahead-most src r k h =
     (λ e. let l : k ≤ source-limit = leb-true _ _ e in let m : min k source-limit ≡ k = omega arith in ap (λ n. ahead n src r) m)
     (λ e. let l : source-limit < k = leb-false _ _ e in ahead-all src r (min k source-limit) k (omega arith) (omega arith))
 
-fetched-most : (src : List ℕ) (r : Reader) (room : List ℕ) (first : TokenIndex) (k spare : ℕ) → length src ≤ source-limit → fetched src r room first (min k source-limit) spare ≡ fetched src r room first k spare
+fetched-most : (src : List ℕ) (r : Reader) (room : List ℕ) (first : TokenIndex) (k spare : ℕ) → length src ≤ source-limit
+    → fetched src r room first (min k source-limit) spare ≡ fetched src r room first k spare
 unfolding fetched
 fetched-most src r room first k spare h = rw (ahead-most src r k h)
 
@@ -93,7 +94,8 @@ module _ (src : List ℕ) (s : State) where
       rw p (by-test (ltb (fetch src n s .window .slots) (kept (fetch src n s .window))) (λ q. rw q (f .current-low)) (λ q. rw q (omega (arith, f .current-low)))))
       (λ p. let no : refused 24 ≡ done = rw p at d in let z : _≡_ {A = ℕ} 0 1 = cc in absurd (omega arith))
 
-  pub reached-low : (n : ℕ) (y : DoneGiven) (room : List ℕ) → done-reply y room ≡ reach src n s → y .answer ≡ of-done.Done → y .window .current .0 ≤ y .window .fetched .0
+  pub reached-low : (n : ℕ) (y : DoneGiven) (room : List ℕ) → done-reply y room ≡ reach src n s → y .answer ≡ of-done.Done
+      → y .window .current .0 ≤ y .window .fetched .0
   reached-low n y room q d =
       let told : reach src n s .answer ≡ done = sym (ap (λ (r : Reply State). r .answer) q) ∙ ap done-told d in
       rw (← q) at (reached-current n told)
@@ -112,7 +114,9 @@ module _ (src : List ℕ) (s : State) where
     reader-sound =
         rw (le-leb _ _ (f .limit), le-leb _ _ (f .inside), le-leb _ _ (f .fetched-low))
 
-    reached-fetched : (n : ℕ) → turned (s .window) (fetched src (s .window .reader) (s .room) (s .window .fetched) (beyond n) (s .window .slots - kept (s .window))) ≡ reach src n s
+    reached-fetched : (n : ℕ)
+        → turned (s .window) (fetched src (s .window .reader) (s .room) (s .window .fetched) (beyond n) (s .window .slots - kept (s .window)))
+        ≡ reach src n s
     unfolding fetched reach fetch
     reached-fetched n =
         let w = s .window in
@@ -138,6 +142,7 @@ module _ (src : List ℕ) (s : State) where
     reached-by n need spare y room h p q e =
         let w = s .window in
         let k : n - (w .fetched .0 - w .current .0) + 1 ≡ beyond (suc n) = omega (arith, f .current-low) in
-        let most : fetched src (w .reader) (s .room) (w .fetched) need spare ≡ fetched src (w .reader) (s .room) (w .fetched) (beyond (suc n)) (w .slots - kept w) =
+        let most : fetched src (w .reader) (s .room) (w .fetched) need spare
+        ≡ fetched src (w .reader) (s .room) (w .fetched) (beyond (suc n)) (w .slots - kept w) =
         rw (p, q, k) (fetched-most src (w .reader) (s .room) (w .fetched) (beyond (suc n)) (w .slots - kept w) (f .limit)) in
         ap (turned w) (e ∙ most) ∙ reached-fetched (suc n)

@@ -51,15 +51,21 @@ still-requires-2 c κs = search needs
 same-length : tie.Need-same-length
 same-length c = search needs
 
+-- where the call starts
+abbrev start : tie.After-fetch → tie.Start
+start c = c .before .before .before .before .before .before .before .before .before .before .before
+
 -- what fetching promises is what is reached, whatever it answers
 gave : (c : tie.After-fetch) (y : Fetched) → c .fetch .result ≡ y
-    → turned (c .before .before .before .before .before .before .before .before .before .before .before .args .window) (outcome y (c .fetch .last .1 .1 .0))
-    ≡ reach (c .before .before .before .before .before .before .before .before .before .before .before .args .src .now) (suc (c .before .before .before .before .before .before .before .before .before .before .before .args .n)) (state (c .before .before .before .before .before .before .before .before .before .before .before .args .window) (c .before .before .before .before .before .before .before .before .before .before .before .args .room .now))
+    → turned (start c .args .window) (outcome y (c .fetch .last .1 .1 .0))
+    ≡ reach (start c .args .src .now) (suc (start c .args .n)) (state (start c .args .window) (start c .args .room .now))
 gave c y e =
-    let a = c .before .before .before .before .before .before .before .before .before .before .before in
+    let a = start c in
+    let room = c .fetch .last .1 .1 .0 in
+    let need = c .before .before .before .before .before .before .needed .ensures in
     let spare = ap (λ (k : ℕ). a .args .window .slots - k) (c .before .before .before .before .before .kept .ensures) in
-    reached-by (a .args .src .now) (state (a .args .window) (a .args .room .now)) (a .pre) (a .args .n) _ _ y (c .fetch .last .1 .1 .0)
-    (c .before .before .before .before .before .before .before .if1 .left) (c .before .before .before .before .before .before .needed .ensures) spare (ap (λ (x : Fetched). outcome x (c .fetch .last .1 .1 .0)) (sym e) ∙ c .fetch .ensures)
+    reached-by (a .args .src .now) (state (a .args .window) (a .args .room .now)) (a .pre) (a .args .n) _ _ y room
+    (c .before .before .before .before .before .before .before .if1 .left) need spare (ap (λ (x : Fetched). outcome x room) (sym e) ∙ c .fetch .ensures)
 
 returns-2 : tie.Need-returns-2
 returns-2 c = gave (c .before .before .before .before .before) _ (c .before .behind .given .1)

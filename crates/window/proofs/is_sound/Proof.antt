@@ -1,6 +1,6 @@
 -- Each test is one of 24's, in its order; the bookmarks are tested before the low index is asked for, which takes the first of them.
 -- Assumes nothing.
-use Prim.Native.Nat.{_≤_}
+use Prim.Native.Nat.{_≤_, _<_}
 use mathlib.Core.Path.{_≡_, sym, _∙_}
 use mathlib.Core.Bool.{true}
 use borrow.Author.Needs.{needs}
@@ -29,7 +29,8 @@ slots-requires c κs = search needs
 returns-3 : tie.Need-returns-3
 returns-3 c =
     let a = c .before .before .before .before .before .before .args in
-    unsound (a .bytes) (a .len) (a .window) 2 (ne-eqb (a .window .slots) (slots-in (a .len)) (λ e. c .if3 .taken (e ∙ sym (c .before .before .slots .ensures))))
+    let other : a .window .slots ≡ slots-in (a .len) → ⊥ = λ e. c .if3 .taken (e ∙ sym (c .before .before .slots .ensures)) in
+    unsound (a .bytes) (a .len) (a .window) 2 (ne-eqb (a .window .slots) (slots-in (a .len)) other)
 
 is-sound-requires : tie.Need-is-sound-requires
 is-sound-requires c κs = search needs
@@ -48,7 +49,8 @@ kept-requires c κs = (sym (c .before .before .before .is-sound .ensures) ∙ no
 returns-6 : tie.Need-returns-6
 returns-6 c =
     let a = c .before .before .before .before .before .before .before .before .before .before .before .before .before .before .args in
-    unsound (a .bytes) (a .len) (a .window) 5 (lt-leb (kept (a .window)) (a .window .slots) (omega (arith, c .before .before .kept .ensures, c .if6 .taken)))
+    let more : a .window .slots < kept (a .window) = omega (arith, c .before .before .kept .ensures, c .if6 .taken) in
+    unsound (a .bytes) (a .len) (a .window) 5 (lt-leb (kept (a .window)) (a .window .slots) more)
 
 returns-7 : tie.Need-returns-7
 returns-7 c = unsound _ _ _ 6 (lt-leb _ _ (c .if7 .taken))
@@ -58,10 +60,14 @@ cast-result c = search needs
 
 returns-8 : tie.Need-returns-8
 returns-8 c =
+    let marks-tested = c .before .before .before .before .before .before .before .before in
     let a = c .before .before .before .before .before .before .before .before .before .before .before .before .before .before .before .before .before .args in
-    let slots-same : a .window .slots ≡ slots-in (a .len) = omega (arith, c .before .before .before .before .before .before .before .before .before .before .before .before .before .slots .ensures) in
-    let held-marks : held (a .window .live) (a .window .fetched .0) (a .window .bookmarks) ≡ true = sym (c .before .before .before .before .before .before .before .before .before .is-sound .ensures) ∙ not-false _ (c .before .before .before .before .before .before .before .before .if4 .left) in
-    sound-last (a .bytes) (a .len) (a .window) (c .before .before .before .before .before .before .before .before .before .before .before .before .before .before .before .before .if1 .left) (c .before .before .before .before .before .before .before .before .before .before .before .before .before .before .if2 .left) slots-same held-marks (omega arith) (omega (arith, c .before .before .before .before .before .kept .ensures)) (omega arith)
+    let slots-same : a .window .slots ≡ slots-in (a .len) = omega (arith, marks-tested .before .before .before .before .before .slots .ensures) in
+    let held-marks : held (a .window .live) (a .window .fetched .0) (a .window .bookmarks) ≡ true =
+    sym (marks-tested .before .is-sound .ensures) ∙ not-false _ (marks-tested .if4 .left) in
+    let kept-few : kept (a .window) ≤ a .window .slots = omega (arith, c .before .before .before .before .before .kept .ensures) in
+    sound-last (a .bytes) (a .len) (a .window) (marks-tested .before .before .before .before .before .before .before .before .if1 .left) (marks-tested .before .before .before .before .before .before .if2 .left) slots-same held-marks
+    (omega arith) kept-few (omega arith)
 
 pub is-sound-spec : {M : Type 1} → statement M
 is-sound-spec =

@@ -21,10 +21,13 @@ is-sound-requires c κs = search needs
 returns : tie.Need-returns
 returns c =
     let a = c .before .before .before .before .args in
-    not-sound (a .src .now) (state (a .self) (a .room .now)) bookmark (sym (c .before .is-sound .ensures) ∙ not-true _ (c .if1 .taken))
+    not-sound (a .src .now) (state (a .self) (a .room .now)) bookmark
+    (sym (c .before .is-sound .ensures) ∙ not-true _ (c .if1 .taken))
 
 -- the window is sound behind the first test
-sound : (c : tie.Else1) → Fit (length (c .before .before .before .before .args .src .now)) (length (c .before .before .before .before .args .room .now)) (c .before .before .before .before .args .self)
+sound : (c : tie.Else1)
+    → Fit (length (c .before .before .before .before .args .src .now)) (length (c .before .before .before .before .args .room .now))
+    (c .before .before .before .before .args .self)
 sound c = fit _ _ _ (sym (c .before .is-sound .ensures) ∙ not-false _ (c .if1 .left))
 
 cast-if2 : tie.Need-cast-if2
@@ -35,7 +38,8 @@ returns-2 c =
     let a = c .before .before .before .before .before .before .args in
     let s = state (a .self) (a .room .now) in
     let h : bookmark-limit ≤ a .self .live = omega arith in
-    full s h ∙ answered-now (a .src .now) s bookmark refl (sound (c .before .before))
+    full s h
+    ∙ answered-now (a .src .now) s bookmark refl (sound (c .before .before))
 
 insert-requires : tie.Need-insert-requires
 insert-requires c κs = search needs
@@ -50,7 +54,8 @@ returns-3 c =
     let f = sound (c .before .before .before .before .before .before) in
     let h = held-facts (f .held-marks) in
     let l : a .self .live < bookmark-limit = omega (arith, h .few) in
-    one-more s h _ l (c .before .insert .ensures) ∙ answered-now (a .src .now) s bookmark refl f
+    one-more s h _ l (c .before .insert .ensures)
+    ∙ answered-now (a .src .now) s bookmark refl f
 
 pub bookmark-spec : {M : Type 1} → statement M
 bookmark-spec =

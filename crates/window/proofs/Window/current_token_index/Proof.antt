@@ -16,7 +16,8 @@ is-sound-requires c κs = search needs
 returns : tie.Need-returns
 returns c =
     let a = c .before .before .before .before .args in
-    not-sound (a .src .now) (state (a .self) (a .room .now)) current-token-index (sym (c .before .is-sound .ensures) ∙ not-true _ (c .if1 .taken))
+    not-sound (a .src .now) (state (a .self) (a .room .now)) current-token-index
+    (sym (c .before .is-sound .ensures) ∙ not-true _ (c .if1 .taken))
 
 returns-2 : tie.Need-returns-2
 unfolding answered

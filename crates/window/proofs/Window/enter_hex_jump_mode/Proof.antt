@@ -18,10 +18,13 @@ is-sound-requires c κs = search needs
 returns : tie.Need-returns
 returns c =
     let a = c .before .before .before .before .args in
-    not-sound (a .src .now) (state (a .self) (a .room .now)) enter-hex-jump-mode (sym (c .before .is-sound .ensures) ∙ not-true _ (c .if1 .taken))
+    not-sound (a .src .now) (state (a .self) (a .room .now)) enter-hex-jump-mode
+    (sym (c .before .is-sound .ensures) ∙ not-true _ (c .if1 .taken))
 
 -- the window is sound behind the first test
-sound : (c : tie.Else1) → Fit (length (c .before .before .before .before .args .src .now)) (length (c .before .before .before .before .args .room .now)) (c .before .before .before .before .args .self)
+sound : (c : tie.Else1)
+    → Fit (length (c .before .before .before .before .args .src .now)) (length (c .before .before .before .before .args .room .now))
+    (c .before .before .before .before .args .self)
 sound c = fit _ _ _ (sym (c .before .is-sound .ensures) ∙ not-false _ (c .if1 .left))
 
 enter-hex-jump-mode-requires : tie.Need-enter-hex-jump-mode-requires
@@ -34,7 +37,8 @@ returns-2 : tie.Need-returns-2
 returns-2 c =
     let a = c .before .before .before .before .before .before .args in
     let s = state (a .self) (a .room .now) in
-    in-jump-mode s _ _ (c .before .enter-hex-jump-mode .ensures) (c .read-on .ensures) ∙ answered-now (a .src .now) s enter-hex-jump-mode refl (sound (c .before .before))
+    in-jump-mode s _ _ (c .before .enter-hex-jump-mode .ensures) (c .read-on .ensures)
+    ∙ answered-now (a .src .now) s enter-hex-jump-mode refl (sound (c .before .before))
 
 pub enter-hex-jump-mode-spec : {M : Type 1} → statement M
 enter-hex-jump-mode-spec =

@@ -18,10 +18,13 @@ is-sound-requires c κs = search needs
 returns : tie.Need-returns
 returns c =
     let a = c .before .before .before .before .args in
-    not-sound (a .src .now) (state (a .self) (a .room .now)) enter-hex-pattern-mode (sym (c .before .is-sound .ensures) ∙ not-true _ (c .if1 .taken))
+    not-sound (a .src .now) (state (a .self) (a .room .now)) enter-hex-pattern-mode
+    (sym (c .before .is-sound .ensures) ∙ not-true _ (c .if1 .taken))
 
 -- the window is sound behind the first test
-sound : (c : tie.Else1) → Fit (length (c .before .before .before .before .args .src .now)) (length (c .before .before .before .before .args .room .now)) (c .before .before .before .before .args .self)
+sound : (c : tie.Else1)
+    → Fit (length (c .before .before .before .before .args .src .now)) (length (c .before .before .before .before .args .room .now))
+    (c .before .before .before .before .args .self)
 sound c = fit _ _ _ (sym (c .before .is-sound .ensures) ∙ not-false _ (c .if1 .left))
 
 enter-hex-pattern-mode-requires : tie.Need-enter-hex-pattern-mode-requires
@@ -34,7 +37,8 @@ returns-2 : tie.Need-returns-2
 returns-2 c =
     let a = c .before .before .before .before .before .before .args in
     let s = state (a .self) (a .room .now) in
-    in-pattern-mode s _ _ (c .before .enter-hex-pattern-mode .ensures) (c .read-on .ensures) ∙ answered-now (a .src .now) s enter-hex-pattern-mode refl (sound (c .before .before))
+    in-pattern-mode s _ _ (c .before .enter-hex-pattern-mode .ensures) (c .read-on .ensures)
+    ∙ answered-now (a .src .now) s enter-hex-pattern-mode refl (sound (c .before .before))
 
 pub enter-hex-pattern-mode-spec : {M : Type 1} → statement M
 enter-hex-pattern-mode-spec =

@@ -12,10 +12,14 @@ use Rattle.window.specs.AnswerLaws.{peeked}
 use Rattle.window.proofs.Window.peek_token.Statement.{statement}
 use Rattle.window.proofs.Window.peek_token.Tie as tie
 
+-- where the call starts
+abbrev start : tie.After-read-on → tie.Start
+start c = c .before .before .before .before .before .before .before
+
 -- the window that was read on, with the answer, is what is reached
 came : (c : tie.After-read-on)
     → done-reply (record { answer = c .before .before .before .reach .result .answer; window = c .read-on .result }) (c .before .before .before .reach .last .1 .1 .0)
-    ≡ reach (c .before .before .before .before .before .before .before .args .src .now) (suc (c .before .before .before .before .before .before .before .args .n)) (state (c .before .before .before .before .before .before .before .args .self) (c .before .before .before .before .before .before .before .args .room .now))
+    ≡ reach (start c .args .src .now) (suc (start c .args .n)) (state (start c .args .self) (start c .args .room .now))
 came c =
     let g = c .before .before .before .reach in
     ap (λ (w : Window). reply (done-told (g .result .answer)) (state w (g .last .1 .1 .0))) (c .read-on .ensures) ∙ g .ensures
@@ -44,7 +48,8 @@ returns : tie.Need-returns
 returns c =
     let a = c .before .before .before .before .before .before .before .before .before .before .before .args in
     peeked (state (c .before .before .before .before .read-on .result) (c .before .before .before .before .before .before .before .reach .last .1 .1 .0)) (a .n) _ (c .look .ensures)
-    ∙ went-on (a .src .now) (state (a .self) (a .room .now)) (peek-token (a .n)) (a .n) refl _ _ (came (c .before .before .before .before)) (c .before .before .enum-told .given .1)
+    ∙ went-on (a .src .now) (state (a .self) (a .room .now)) (peek-token (a .n)) (a .n) refl _ _
+    (came (c .before .before .before .before)) (c .before .before .enum-told .given .1)
 
 same-length-2 : tie.Need-same-length-2
 same-length-2 c = search needs
@@ -52,7 +57,8 @@ same-length-2 c = search needs
 returns-2 : tie.Need-returns-2
 returns-2 c =
     let a = c .before .before .before .before .before .before .before .before .before .before .args in
-    refused-there (a .src .now) (state (a .self) (a .room .now)) (peek-token (a .n)) (a .n) refl _ _ (came (c .before .before .before)) _ (c .before .answer .given .1)
+    refused-there (a .src .now) (state (a .self) (a .room .now)) (peek-token (a .n)) (a .n) refl _ _ (came (c .before .before .before))
+    _ (c .before .answer .given .1)
 
 pub peek-token-spec : {M : Type 1} → statement M
 peek-token-spec =

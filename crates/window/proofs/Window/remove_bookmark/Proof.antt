@@ -20,10 +20,13 @@ is-sound-requires c κs = search needs
 returns : tie.Need-returns
 returns c =
     let a = c .before .before .before .before .args in
-    not-sound (a .src .now) (state (a .self) (a .room .now)) (remove-bookmark (a .mark)) (sym (c .before .is-sound .ensures) ∙ not-true _ (c .if1 .taken))
+    not-sound (a .src .now) (state (a .self) (a .room .now)) (remove-bookmark (a .mark))
+    (sym (c .before .is-sound .ensures) ∙ not-true _ (c .if1 .taken))
 
 -- the window is sound behind the first test
-sound : (c : tie.Else1) → Fit (length (c .before .before .before .before .args .src .now)) (length (c .before .before .before .before .args .room .now)) (c .before .before .before .before .args .self)
+sound : (c : tie.Else1)
+    → Fit (length (c .before .before .before .before .args .src .now)) (length (c .before .before .before .before .args .room .now))
+    (c .before .before .before .before .args .self)
 sound c = fit _ _ _ (sym (c .before .is-sound .ensures) ∙ not-false _ (c .if1 .left))
 
 has-requires : tie.Need-has-requires
@@ -33,7 +36,8 @@ returns-2 : tie.Need-returns-2
 returns-2 c =
     let a = c .before .before .before .before .before .before .before .args in
     let s = state (a .self) (a .room .now) in
-    not-removed s (a .mark) (sym (c .before .has .ensures) ∙ not-true _ (c .if2 .taken)) ∙ answered-now (a .src .now) s (remove-bookmark (a .mark)) refl (sound (c .before .before .before))
+    not-removed s (a .mark) (sym (c .before .has .ensures) ∙ not-true _ (c .if2 .taken))
+    ∙ answered-now (a .src .now) s (remove-bookmark (a .mark)) refl (sound (c .before .before .before))
 
 remove-requires : tie.Need-remove-requires
 remove-requires c κs = search needs
@@ -42,14 +46,17 @@ sub-window : tie.Need-sub-window
 sub-window c =
     let a = c .before .before .before .before .before .before .before .before .before .args in
     let h = held-facts (sound (c .before .before .before .before .before) .held-marks) in
-    omega (arith, length-without (a .mark) (marks (a .self)) (sym (c .before .before .before .has .ensures) ∙ not-false _ (c .before .before .if2 .left)), h .counted)
+    let live = sym (c .before .before .before .has .ensures) ∙ not-false _ (c .before .before .if2 .left) in
+    omega (arith, length-without (a .mark) (marks (a .self)) live, h .counted)
 
 returns-3 : tie.Need-returns-3
 returns-3 c =
     let a = c .before .before .before .before .before .before .before .before .before .args in
     let s = state (a .self) (a .room .now) in
     let f = sound (c .before .before .before .before .before) in
-    one-less s (held-facts (f .held-marks)) (a .mark) _ (sym (c .before .before .before .has .ensures) ∙ not-false _ (c .before .before .if2 .left)) (c .before .remove .ensures) ∙ answered-now (a .src .now) s (remove-bookmark (a .mark)) refl f
+    let live = sym (c .before .before .before .has .ensures) ∙ not-false _ (c .before .before .if2 .left) in
+    one-less s (held-facts (f .held-marks)) (a .mark) _ live (c .before .remove .ensures)
+    ∙ answered-now (a .src .now) s (remove-bookmark (a .mark)) refl f
 
 pub remove-bookmark-spec : {M : Type 1} → statement M
 remove-bookmark-spec =

@@ -18,10 +18,13 @@ is-sound-requires c κs = search needs
 returns : tie.Need-returns
 returns c =
     let a = c .before .before .before .before .args in
-    not-sound (a .src .now) (state (a .self) (a .room .now)) (restore-bookmark (a .mark)) (sym (c .before .is-sound .ensures) ∙ not-true _ (c .if1 .taken))
+    not-sound (a .src .now) (state (a .self) (a .room .now)) (restore-bookmark (a .mark))
+    (sym (c .before .is-sound .ensures) ∙ not-true _ (c .if1 .taken))
 
 -- the window is sound behind the first test
-sound : (c : tie.Else1) → Fit (length (c .before .before .before .before .args .src .now)) (length (c .before .before .before .before .args .room .now)) (c .before .before .before .before .args .self)
+sound : (c : tie.Else1)
+    → Fit (length (c .before .before .before .before .args .src .now)) (length (c .before .before .before .before .args .room .now))
+    (c .before .before .before .before .args .self)
 sound c = fit _ _ _ (sym (c .before .is-sound .ensures) ∙ not-false _ (c .if1 .left))
 
 has-requires : tie.Need-has-requires
@@ -31,13 +34,15 @@ returns-2 : tie.Need-returns-2
 returns-2 c =
     let a = c .before .before .before .before .before .before .before .args in
     let s = state (a .self) (a .room .now) in
-    not-restored s (a .mark) (sym (c .before .has .ensures) ∙ not-true _ (c .if2 .taken)) ∙ answered-now (a .src .now) s (restore-bookmark (a .mark)) refl (sound (c .before .before .before))
+    not-restored s (a .mark) (sym (c .before .has .ensures) ∙ not-true _ (c .if2 .taken))
+    ∙ answered-now (a .src .now) s (restore-bookmark (a .mark)) refl (sound (c .before .before .before))
 
 returns-3 : tie.Need-returns-3
 returns-3 c =
     let a = c .before .before .before .before .before .before .before .args in
     let s = state (a .self) (a .room .now) in
-    restored s (a .mark) (sym (c .before .has .ensures) ∙ not-false _ (c .if2 .left)) ∙ answered-now (a .src .now) s (restore-bookmark (a .mark)) refl (sound (c .before .before .before))
+    restored s (a .mark) (sym (c .before .has .ensures) ∙ not-false _ (c .if2 .left))
+    ∙ answered-now (a .src .now) s (restore-bookmark (a .mark)) refl (sound (c .before .before .before))
 
 pub restore-bookmark-spec : {M : Type 1} → statement M
 restore-bookmark-spec =
