@@ -12,7 +12,9 @@ use Rattle.tokens.specs.declared.TokenIndex.{TokenIndex}
 use Rattle.refusals.specs.Refusals.{number-of}
 use Rattle.scanner.specs.declared.Reader.{Reader}
 use Rattle.scanner.specs.Reading.{source-limit, entered, ahead}
-use Rattle.token_record.specs.Record.{Call, next-token, peek-token, has-more, bookmark, restore-bookmark, remove-bookmark, current-token-index, enter-hex-pattern-mode, enter-hex-jump-mode, Answer, token, none, truth, index, done, refused, Reply, reply, bookmark-limit, wants, member, without, least}
+use Rattle.token_record.specs.Record.{Call, next-token, peek-token, has-more, bookmark, restore-bookmark, remove-bookmark}
+use Rattle.token_record.specs.Record.{current-token-index, enter-hex-pattern-mode, enter-hex-jump-mode, wants}
+use Rattle.token_record.specs.Record.{Answer, token, none, truth, index, done, refused, Reply, reply, bookmark-limit, member, without, least}
 use Rattle.token_room.specs.Room.{slots-in, nth, read, write-all}
 use Rattle.bookmarks.specs.Bookmarks.{padded, held, insert}
 use Rattle.window.specs.declared.Window.{Window}
@@ -37,7 +39,7 @@ pub record State : Type 0 where
 abbrev pub state : Window → List ℕ → State
 state w room = record { window = w; room = room }
 
--- The live bookmarks, the low index, and how many tokens are kept.
+-- The live bookmarks; and how many tokens are kept, from the smaller of the current index and the least of them on.
 abbrev pub marks : Window → List TokenIndex
 marks w = take (w .live) (w .bookmarks)
 
@@ -89,21 +91,12 @@ bookmarked a n w =
 abbrev pub marked : List TokenIndex → Window → Window
 marked l w = bookmarked (padded l) (length l) w
 
-abbrev pub switched : Mode → Window → Window
-switched m w =
-    record {
-      bookmarks = w .bookmarks;
-      live = w .live;
-      bytes = w .bytes;
-      slots = w .slots;
-      reader = entered m (w .reader);
-      fetched = w .fetched;
-      current = w .current;
-    }
-
 abbrev pub read-on : Reader → ℕ → Window → Window
 read-on r n w =
     record { bookmarks = w .bookmarks; live = w .live; bytes = w .bytes; slots = w .slots; reader = r; fetched = nth n; current = w .current }
+
+abbrev pub switched : Mode → Window → Window
+switched m w = read-on (entered m (w .reader)) (w .fetched .0) w
 
 -- Fetching n tokens from the current one on, or those up to the end: they go into their slots.
 unfoldable pub fetch : List ℕ → ℕ → State → State
