@@ -7,15 +7,12 @@ use mathlib.Core.List.{List}
 use native.Mathlib.Omega.{arith}
 use lib.ListN.{length}
 use borrow.Author.Tests.{lt-ltb, le-ltb}
-use Rattle.tokens.specs.declared.Mode.the-variants.{HexPattern, HexJump}
 use Rattle.tokens.specs.declared.TokenIndex.{TokenIndex}
-use Rattle.scanner.specs.declared.Reader.{Reader}
-use Rattle.scanner.specs.Reading.{entered}
-use Rattle.token_record.specs.Record.{next-token, peek-token, bookmark, restore-bookmark, remove-bookmark, enter-hex-pattern-mode, enter-hex-jump-mode, Answer, index, done, refused, reply, bookmark-limit, member, without}
+use Rattle.token_record.specs.Record.{next-token, peek-token, bookmark, restore-bookmark, remove-bookmark, Answer, index, done, refused, reply, bookmark-limit, member, without}
 use Rattle.bookmarks.specs.Bookmarks.{insert, inserted, removed}
 use Rattle.bookmarks.specs.HeldLaws.{Held, inserted-padded, removed-padded, length-insert, length-without}
 use Rattle.window.specs.declared.Window.{Window}
-use Rattle.window.specs.Window.{State, marks, moved, bookmarked, read-on, look, past, with-window, answered}
+use Rattle.window.specs.Window.{State, marks, moved, bookmarked, look, past, with-window, answered}
 
 module _ (s : State) where
   pub took : (a : Answer) (w : Window) → a ≡ look 0 s → w ≡ past (s .window) → reply a (with-window s w) ≡ answered next-token s
@@ -42,18 +39,6 @@ module _ (s : State) where
       → reply done (with-window s (moved i (s .window))) ≡ answered (restore-bookmark i) s
   unfolding answered
   restored i e = rw e
-
-  -- the switches: the reader's own
-  module _ (r : Reader) (w : Window) where
-    pub in-pattern-mode : r ≡ entered HexPattern (s .window .reader) → w ≡ read-on r (s .window .fetched .0) (s .window)
-        → reply done (with-window s w) ≡ answered enter-hex-pattern-mode s
-    unfolding answered
-    in-pattern-mode e f = rw (f, e)
-
-    pub in-jump-mode : r ≡ entered HexJump (s .window .reader) → w ≡ read-on r (s .window .fetched .0) (s .window)
-        → reply done (with-window s w) ≡ answered enter-hex-jump-mode s
-    unfolding answered
-    in-jump-mode e f = rw (f, e)
 
   module _ {top : ℕ} (h : Held (s .window .live) top (s .window .bookmarks)) where
     pub one-more : (a : List TokenIndex) → s .window .live < bookmark-limit → a ≡ inserted (s .window .live) (s .window .current) (s .window .bookmarks)

@@ -1,10 +1,12 @@
--- Fetching for a call that wants n tokens, with its refusals: 24, then 2; and how the call goes on.
+-- Fetching for a call that wants n tokens, with its refusals: 24, then 2; and how the call goes on. The switches share a way too.
 -- Assumes nothing.
 use Prim.Native.Nat.{ℕ}
 use mathlib.Core.Bool.{cond}
 use mathlib.Core.List.{List}
 use lib.ListN.{length}
 use lib.Dec.{ltb}
+use Rattle.refusals.specs.declared.Refusal.the-variants.{NotAsOpened}
+use Rattle.scanner.specs.declared.Reader.{Reader}
 use Rattle.token_record.specs.Record.{Call, Answer, token, none, truth, index, done, refused, Reply, reply}
 use Rattle.fetching.specs.declared.Fetched.{Fetched}
 use Rattle.fetching.specs.declared.Fetched.the-variants.{Upto, Refused}
@@ -46,3 +48,9 @@ reached w r = record { answer = r .answer; window = read-on (r .reader) (r .fetc
 
 abbrev pub still : Window → DoneAnswer → Reached
 still w a = record { answer = a; reader = w .reader; fetched = w .fetched }
+
+-- A switch: 24, or the window with the reader switched.
+abbrev pub switch : ℕ → ℕ → Reader → Window → DoneGiven
+switch bytes len r w =
+    cond (sound bytes len w) (record { answer = of-done.Done; window = read-on r (w .fetched .0) w })
+    (record { answer = of-done.Refused NotAsOpened; window = w })

@@ -10,11 +10,12 @@ use lib.ListN.{length}
 use lib.Dec.{leb, ltb}
 use borrow.Author.Tests.{le-leb, lt-leb, lt-ltb, le-ltb, ltb-true, ltb-false, leb-true, leb-false}
 use Rattle.patterns.specs.Bools.{by-test, and-both}
+use Rattle.tokens.specs.declared.Mode.{Mode}
 use Rattle.tokens.specs.declared.TokenIndex.{TokenIndex}
 use Rattle.refusals.specs.declared.Refusal.{Refusal}
 use Rattle.refusals.specs.Refusals.{number-of}
 use Rattle.scanner.specs.declared.Reader.{Reader}
-use Rattle.scanner.specs.Reading.{source-limit, Ahead, ahead}
+use Rattle.scanner.specs.Reading.{source-limit, entered, Ahead, ahead}
 use Rattle.scanner.specs.Reading as reading
 use Rattle.scanner.specs.Following.{ahead-none, ahead-all}
 use Rattle.token_record.specs.Record.{Call, done, refused, Reply, reply, wants, least}
@@ -23,10 +24,11 @@ use Rattle.fetching.specs.declared.Fetched.{Fetched}
 use Rattle.fetching.specs.Fetching.{Outcome, outcome, fetched}
 use Rattle.bookmarks.specs.HeldLaws.{least-le}
 use Rattle.window.specs.declared.DoneAnswer.the-variants as of-done
-use Rattle.window.specs.declared.DoneGiven.{DoneGiven}
-use Rattle.window.specs.Window.{State, state, marks, kept, sound, fetch, answered, step, done-told, done-reply}
+use Rattle.window.specs.declared.Reached.{Reached}
+use Rattle.window.specs.declared.Window.{Window}
+use Rattle.window.specs.Window.{State, state, marks, kept, sound, read-on, switched, fetch, with-window, answered, step, done-told, done-reply}
 use Rattle.window.specs.SoundLaws.{Fit, fit, fit-sound}
-use Rattle.window.specs.Reaching.{reach, proceed, turned}
+use Rattle.window.specs.Reaching.{reach, proceed, turned, reached, switch}
 
 -- from the limit on, every number of tokens is all of them
 ahead-most : (src : List ℕ) (r : Reader) (k : ℕ) → length src ≤ source-limit → ahead (min k source-limit) src r ≡ ahead k src r
@@ -72,18 +74,6 @@ module _ (src : List ℕ) (s : State) where
       by-test (ltb (fetch src (suc k) s .window .slots) (kept (fetch src (suc k) s .window))) (λ q. rw (p, e, l, q)) (λ q. rw (p, e, l, q)))
       (λ p. rw p)
 
-  module _ (c : Call) (k : ℕ) (e : wants c ≡ suc k) (y : DoneGiven) (room : List ℕ) (q : done-reply y room ≡ reach src (suc k) s) where
-    proceeded : proceed c (done-told (y .answer)) (state (y .window) room) ≡ step src c s
-    proceeded = ap (λ (r : Reply State). proceed c (r .answer) (r .after)) q ∙ proceeds c k e
-
-    pub went-on : y .answer ≡ of-done.Done → answered c (state (y .window) room) ≡ step src c s
-    unfolding proceed
-    went-on d = rw d at proceeded
-
-    pub refused-there : (n : Refusal) → y .answer ≡ of-done.Refused n → reply (refused (number-of n)) (state (y .window) room) ≡ step src c s
-    unfolding proceed
-    refused-there n d = rw d at proceeded
-
   -- the window reached has its current index no further than what is fetched
   reached-current : (n : ℕ) → reach src n s .answer ≡ done → reach src n s .after .window .current .0 ≤ reach src n s .after .window .fetched .0
   unfolding reach fetch
@@ -94,11 +84,27 @@ module _ (src : List ℕ) (s : State) where
       rw p (by-test (ltb (fetch src n s .window .slots) (kept (fetch src n s .window))) (λ q. rw q (f .current-low)) (λ q. rw q (omega (arith, f .current-low)))))
       (λ p. let no : refused 24 ≡ done = rw p at d in let z : _≡_ {A = ℕ} 0 1 = cc in absurd (omega arith))
 
-  pub reached-low : (n : ℕ) (y : DoneGiven) (room : List ℕ) → done-reply y room ≡ reach src n s → y .answer ≡ of-done.Done
-      → y .window .current .0 ≤ y .window .fetched .0
-  reached-low n y room q d =
-      let told : reach src n s .answer ≡ done = sym (ap (λ (r : Reply State). r .answer) q) ∙ ap done-told d in
-      rw (← q) at (reached-current n told)
+  -- the code's answer r to reaching, and the window w that was read on to what was reached
+  module _ (n : ℕ) (r : Reached) (w : Window) (room : List ℕ) (f : w ≡ read-on (r .reader) (r .fetched .0) (s .window)) (q : done-reply (reached (s .window) r) room ≡ reach src n s) where
+    came : reply (done-told (r .answer)) (state w room) ≡ reach src n s
+    came = ap (λ (v : Window). reply (done-told (r .answer)) (state v room)) f ∙ q
+
+    module _ (c : Call) (k : ℕ) (e : wants c ≡ suc k) (m : n ≡ suc k) where
+      proceeded : proceed c (done-told (r .answer)) (state w room) ≡ step src c s
+      proceeded = ap (λ (y : Reply State). proceed c (y .answer) (y .after)) (came ∙ ap (λ (j : ℕ). reach src j s) m) ∙ proceeds c k e
+
+      pub went-on : r .answer ≡ of-done.Done → answered c (state w room) ≡ step src c s
+      unfolding proceed
+      went-on d = rw d at proceeded
+
+      pub refused-there : (x : Refusal) → r .answer ≡ of-done.Refused x → reply (refused (number-of x)) (state w room) ≡ step src c s
+      unfolding proceed
+      refused-there x d = rw d at proceeded
+
+    pub reached-low : r .answer ≡ of-done.Done → w .current .0 ≤ w .fetched .0
+    reached-low d =
+        let told : reach src n s .answer ≡ done = sym (ap (λ (y : Reply State). y .answer) came) ∙ ap done-told d in
+        rw (← came) at (reached-current n told)
 
   module _ (f : Fit (length src) (length (s .room)) (s .window)) where
     -- where the token wanted has been fetched, so have all before it
@@ -146,3 +152,12 @@ module _ (src : List ℕ) (s : State) where
         ≡ fetched src (w .reader) (s .room) (w .fetched) (beyond (suc n)) (w .slots - kept w) =
         rw (p, q, k) (fetched-most src (w .reader) (s .room) (w .fetched) (beyond (suc n)) (w .slots - kept w) (f .limit)) in
         ap (turned w) (e ∙ most) ∙ reached-fetched (suc n)
+
+-- The switches: 24, or the reader's own where it stands.
+module _ (src : List ℕ) (s : State) (r : Reader) where
+  pub switches : (c : Call) (m : Mode) → wants c ≡ 0 → (answered c s ≡ reply done (with-window s (switched m (s .window)))) → r ≡ entered m (s .window .reader)
+      → done-reply (switch (length src) (length (s .room)) r (s .window)) (s .room) ≡ step src c s
+  switches c m e a f =
+      by-test (sound (length src) (length (s .room)) (s .window))
+      (λ p. rw (p, f) (sym a ∙ answered-now src s c e (fit _ _ _ p)))
+      (λ p. rw p (not-sound src s c p))

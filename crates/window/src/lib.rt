@@ -8,7 +8,7 @@ ghost use Rattle.bookmarks.specs.Bookmarks.{held};
 ghost use Rattle.scanner.specs.Reading.{source-limit};
 ghost use Rattle.window.specs.Window.{state, fresh, fresh-at, read-on, sound, kept, seen, past, step, open-of, token-told, token-reply, more-reply, index-reply, done-reply};
 ghost use Rattle.window.specs.SoundLaws.{Fit};
-ghost use Rattle.window.specs.Reaching.{reached, still, reach};
+ghost use Rattle.window.specs.Reaching.{reached, still, reach, switch};
 use bookmarks::BOOKMARKS;
 use fetching::Fetched;
 use refusals::Refusal;
@@ -261,34 +261,16 @@ impl Window {
     pub fn enter_hex_pattern_mode(self, src: &[u8], room: &[u32]) -> DoneGiven
         ensures { λ r. ⌜ done-reply r (now (room .entry)) ≡ step (now (src .entry)) enter-hex-pattern-mode (state self (now (room .entry))) ⌝ }
     {
-        if !is_sound(self, src.len(), room.len()) {
-            return DoneGiven {
-                answer: DoneAnswer::Refused(Refusal::NotAsOpened),
-                window: self,
-            };
-        }
         let in_pattern_mode = self.reader.enter_hex_pattern_mode();
-        DoneGiven {
-            answer: DoneAnswer::Done,
-            window: read_on(self, in_pattern_mode, self.fetched),
-        }
+        switch(self, src.len(), room.len(), in_pattern_mode)
     }
 
     // Switches to the jump mode, behind the last token fetched.
     pub fn enter_hex_jump_mode(self, src: &[u8], room: &[u32]) -> DoneGiven
         ensures { λ r. ⌜ done-reply r (now (room .entry)) ≡ step (now (src .entry)) enter-hex-jump-mode (state self (now (room .entry))) ⌝ }
     {
-        if !is_sound(self, src.len(), room.len()) {
-            return DoneGiven {
-                answer: DoneAnswer::Refused(Refusal::NotAsOpened),
-                window: self,
-            };
-        }
         let in_jump_mode = self.reader.enter_hex_jump_mode();
-        DoneGiven {
-            answer: DoneAnswer::Done,
-            window: read_on(self, in_jump_mode, self.fetched),
-        }
+        switch(self, src.len(), room.len(), in_jump_mode)
     }
 }
 
@@ -414,6 +396,23 @@ fn needed(far: usize) -> usize
         far + 1
     } else {
         SOURCE_LIMIT
+    }
+}
+
+// Tests the window, and goes on with another reader behind the last token fetched.
+fn switch(window: Window, bytes: usize, len: usize, reader: Reader) -> DoneGiven
+    ensures { λ r. ⌜ r ≡ switch bytes len reader window ⌝ }
+{
+    if is_sound(window, bytes, len) {
+        DoneGiven {
+            answer: DoneAnswer::Done,
+            window: read_on(window, reader, window.fetched),
+        }
+    } else {
+        DoneGiven {
+            answer: DoneAnswer::Refused(Refusal::NotAsOpened),
+            window,
+        }
     }
 }
 

@@ -1,28 +1,14 @@
 -- What `reach` gives is what the call goes on from; then `look`.
 -- Assumes nothing.
 use Prim.Native.Nat.{suc}
-use mathlib.Core.Path.{_≡_, refl, ap, _∙_}
+use mathlib.Core.Path.{refl, _∙_}
 use borrow.Author.Needs.{needs}
-use Rattle.token_record.specs.Record.{reply, peek-token}
-use Rattle.window.specs.declared.Window.{Window}
-use Rattle.window.specs.Window.{state, done-told, done-reply}
-use Rattle.window.specs.Reaching.{reach}
+use Rattle.token_record.specs.Record.{peek-token}
+use Rattle.window.specs.Window.{state}
 use Rattle.window.specs.WindowLaws.{went-on, refused-there, reached-low}
 use Rattle.window.specs.AnswerLaws.{peeked}
 use Rattle.window.proofs.Window.peek_token.Statement.{statement}
 use Rattle.window.proofs.Window.peek_token.Tie as tie
-
--- where the call starts
-abbrev start : tie.After-read-on → tie.Start
-start c = c .before .before .before .before .before .before .before
-
--- the window that was read on, with the answer, is what is reached
-came : (c : tie.After-read-on)
-    → done-reply (record { answer = c .before .before .before .reach .result .answer; window = c .read-on .result }) (c .before .before .before .reach .last .1 .1 .0)
-    ≡ reach (start c .args .src .now) (suc (start c .args .n)) (state (start c .args .self) (start c .args .room .now))
-came c =
-    let g = c .before .before .before .reach in
-    ap (λ (w : Window). reply (done-told (g .result .answer)) (state w (g .last .1 .1 .0))) (c .read-on .ensures) ∙ g .ensures
 
 reach-requires : tie.Need-reach-requires
 reach-requires c κs = search needs
@@ -36,7 +22,8 @@ enum-told c = search needs
 look-requires : tie.Need-look-requires
 look-requires c κs =
     let a = c .before .before .before .before .before .before .before .before .before .before .args in
-    reached-low (a .src .now) (state (a .self) (a .room .now)) (suc (a .n)) _ _ (came (c .before .before .before)) (c .before .enum-told .given .1)
+    let g = c .before .before .before .before .before .before .reach in
+    reached-low (a .src .now) (state (a .self) (a .room .now)) (suc (a .n)) (g .result) _ _ (c .before .before .before .read-on .ensures) (g .ensures) (c .before .enum-told .given .1)
 
 enum-known-answer : tie.Need-enum-known-answer
 enum-known-answer c = search needs
@@ -47,9 +34,10 @@ same-length c = search needs
 returns : tie.Need-returns
 returns c =
     let a = c .before .before .before .before .before .before .before .before .before .before .before .args in
-    peeked (state (c .before .before .before .before .read-on .result) (c .before .before .before .before .before .before .before .reach .last .1 .1 .0)) (a .n) _ (c .look .ensures)
-    ∙ went-on (a .src .now) (state (a .self) (a .room .now)) (peek-token (a .n)) (a .n) refl _ _
-    (came (c .before .before .before .before)) (c .before .before .enum-told .given .1)
+    let g = c .before .before .before .before .before .before .before .reach in
+    peeked (state (c .before .before .before .before .read-on .result) (g .last .1 .1 .0)) (a .n) _ (c .look .ensures)
+    ∙ went-on (a .src .now) (state (a .self) (a .room .now)) (suc (a .n)) (g .result) _ (g .last .1 .1 .0) (c .before .before .before .before .read-on .ensures) (g .ensures) (peek-token (a .n)) (a .n) refl refl
+    (c .before .before .enum-told .given .1)
 
 same-length-2 : tie.Need-same-length-2
 same-length-2 c = search needs
@@ -57,8 +45,9 @@ same-length-2 c = search needs
 returns-2 : tie.Need-returns-2
 returns-2 c =
     let a = c .before .before .before .before .before .before .before .before .before .before .args in
-    refused-there (a .src .now) (state (a .self) (a .room .now)) (peek-token (a .n)) (a .n) refl _ _ (came (c .before .before .before))
-    _ (c .before .answer .given .1)
+    let g = c .before .before .before .before .before .before .reach in
+    refused-there (a .src .now) (state (a .self) (a .room .now)) (suc (a .n)) (g .result) _ (g .last .1 .1 .0) (c .before .before .before .read-on .ensures) (g .ensures) (peek-token (a .n)) (a .n) refl refl _
+    (c .before .answer .given .1)
 
 pub peek-token-spec : {M : Type 1} → statement M
 peek-token-spec =

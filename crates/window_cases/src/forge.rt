@@ -1,0 +1,56 @@
+// The lines that set a field of the window's record.
+use crate::ask;
+use crate::ask::Ask;
+use scanner::Reader;
+use tokens::Offset;
+use tokens::TokenIndex;
+use window::Window;
+
+// The record with another number at a place for bookmarks.
+fn marked(w: Window, at: usize, mark: u32) -> Window {
+    let mut marks = w.bookmarks;
+    if at < 64 {
+        marks[at] = TokenIndex(mark);
+    }
+    let mut forged = w;
+    forged.bookmarks = marks;
+    forged
+}
+
+// The record with its reader elsewhere.
+fn placed(w: Window, place: u32) -> Window {
+    let before = w.reader;
+    let mode = before.mode;
+    let reader = Reader {
+        place: Offset(place),
+        mode,
+    };
+    let mut forged = w;
+    forged.reader = reader;
+    forged
+}
+
+// The record with another number in a field, by the line's first letter.
+fn counted(w: Window, letter: u8, n: u32) -> Window {
+    let index = TokenIndex(n);
+    let mut forged = w;
+    match letter {
+        b'F' => forged.fetched = index,
+        b'C' => forged.current = index,
+        b'L' => forged.live = n,
+        b'B' => forged.bytes = n,
+        _ => forged.slots = n as usize,
+    }
+    forged
+}
+
+// The record with a field set, by the line's first letter.
+pub(crate) fn set(w: Window, asked: Ask) -> Window {
+    let n = ask::narrow(asked.first);
+    let letter = asked.letter;
+    match letter {
+        b'M' => marked(w, n as usize, ask::narrow(asked.second)),
+        b'P' => placed(w, n),
+        _ => counted(w, letter, n),
+    }
+}
