@@ -1,0 +1,45 @@
+-- `recorded_calls::replay_in` is safe: so many slots are no more than there is room for.
+-- Assumes nothing.
+use mathlib.Core.Path.{sym}
+use native.Mathlib.Omega.{arith}
+use borrow.Author.Needs.{needs}
+use lib.Seq.{length-take-le}
+use Rattle.recorded_calls.proofs.replay_in.Statement.{statement}
+use Rattle.recorded_calls.proofs.replay_in.Tie as tie
+
+token-room-requires : tie.Need-token-room-requires
+token-room-requires c κs = search needs
+
+returns : tie.Need-returns
+returns c = search needs
+
+mul-room : tie.Need-mul-room
+mul-room c = search needs
+
+array-borrow-prefix-room : tie.Need-array-borrow-prefix-room
+array-borrow-prefix-room c = search needs
+
+slice-aggregate-replay : tie.Need-slice-aggregate-replay
+slice-aggregate-replay c = sym (length-take-le _ _ (omega (arith, c .before .before .token-room .ok)))
+
+replay-requires : tie.Need-replay-requires
+replay-requires c κs = search needs
+
+same-length : tie.Need-same-length
+same-length c = search needs
+
+returns-2 : tie.Need-returns-2
+returns-2 c = search needs
+
+pub replay-in-spec : {M : Type 1} → statement M
+replay-in-spec =
+    tie.close
+    (tie.spec
+    token-room-requires
+    returns
+    mul-room
+    array-borrow-prefix-room
+    slice-aggregate-replay
+    replay-requires
+    same-length
+    returns-2)
