@@ -1,5 +1,5 @@
 // Replays scripts at the borders: an over-long source, an empty one, no script, no place for answers, no room; and document 01's case of a
-// rewind. Each case writes how many answers there are, the answers' numbers and the room's; the file stdout has what document 01 says.
+// rewind. Each case writes how many answers were written, the answers' numbers and the room's; the file stdout has what document 01 says.
 use libc::STDOUT_FILENO;
 
 // A source of the most bytes, and one more: the newlines in it are a token each.
@@ -29,7 +29,7 @@ fn show(title: &[u8], src: &[u8], script: &[u32], room: &mut [u32], answers: &mu
     io::write_all(STDOUT_FILENO, title);
     io::write_all(STDOUT_FILENO, b": ");
     io::print_decimal(STDOUT_FILENO, n as u64);
-    io::write_all(STDOUT_FILENO, b" answers\nanswers");
+    io::write_all(STDOUT_FILENO, b" written\nanswers");
     write_numbers(answers);
     io::write_all(STDOUT_FILENO, b"room");
     write_numbers(room);
