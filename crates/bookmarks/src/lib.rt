@@ -1,7 +1,6 @@
 // The bookmarks: an array of 64 token indexes, of which the first `live` are in use, in order, and the others 0.
 ghost use Prim.Native.Nat.{_-_, _≤_, _<_};
 ghost use mathlib.Core.Path.{_≡_};
-ghost use mathlib.Core.List.{_++_};
 ghost use lib.ListN.{take, drop};
 ghost use Rattle.token_record.specs.Record.{member};
 ghost use Rattle.bookmarks.specs.Bookmarks.{in-order, unused, held, low-of, inserted, removed};

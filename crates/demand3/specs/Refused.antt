@@ -1,6 +1,6 @@
 -- Demand 1: a refused call changes neither the window nor the lent room, whatever they hold. Refusals 24 and 2 give back what was
 -- handed in; 3 and 4 come from calls that want no token, and such a call, once sound, fetches none. Assumes nothing.
-use Prim.Native.Nat.{ℕ, _+_, _≤_}
+use Prim.Native.Nat.{ℕ, _+_}
 use mathlib.Core.Path.{_≡_, refl, ap, _∙_}
 use mathlib.Core.Bool.{true}
 use mathlib.Core.List.{List}

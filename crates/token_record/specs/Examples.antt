@@ -54,7 +54,8 @@ unfolding outnumbers
 not-outnumbered = refl
 
 -- kept are the tokens from the least bookmark on, and from the current index where that is smaller
-kept-from-the-bookmark : run (bounded 2 (ascii "a b c")) (bookmark ∷ next-token ∷ next-token ∷ next-token ∷ remove-bookmark (at 0) ∷ next-token ∷ []) opened
+kept-from-the-bookmark :
+    run (bounded 2 (ascii "a b c")) (bookmark ∷ next-token ∷ next-token ∷ next-token ∷ remove-bookmark (at 0) ∷ next-token ∷ []) opened
     ≡ index (at 0) ∷ found 72 0 1 ∷ found 78 1 2 ∷ refused 2 ∷ done ∷ found 72 2 3 ∷ []
 unfolding run bounded
 kept-from-the-bookmark = refl
@@ -70,13 +71,19 @@ unfolding run whole
 too-many = refl
 
 -- a switch acts behind the last token fetched: `ab` was peeked, and `cd` is a byte
-switch-ahead : run (whole (ascii "ab cd")) (peek-token 1 ∷ enter-hex-pattern-mode ∷ next-token ∷ next-token ∷ next-token ∷ has-more ∷ current-token-index ∷ []) opened
+abbrev ahead : List Call
+ahead = peek-token 1 ∷ enter-hex-pattern-mode ∷ next-token ∷ next-token ∷ next-token ∷ has-more ∷ current-token-index ∷ []
+
+switch-ahead : run (whole (ascii "ab cd")) ahead opened
     ≡ found 78 2 3 ∷ done ∷ found 72 0 2 ∷ found 78 2 3 ∷ found 80 3 5 ∷ truth false ∷ index (at 3) ∷ []
 unfolding run whole
 switch-ahead = refl
 
 -- a bookmark that is not live, and one of two that are equal
-not-live : run (whole []) (restore-bookmark (at 0) ∷ bookmark ∷ bookmark ∷ remove-bookmark (at 0) ∷ restore-bookmark (at 0) ∷ remove-bookmark (at 0) ∷ remove-bookmark (at 0) ∷ []) opened
+abbrev again : List Call
+again = restore-bookmark (at 0) ∷ bookmark ∷ bookmark ∷ remove-bookmark (at 0) ∷ restore-bookmark (at 0) ∷ remove-bookmark (at 0) ∷ remove-bookmark (at 0) ∷ []
+
+not-live : run (whole []) again opened
     ≡ refused 4 ∷ index (at 0) ∷ index (at 0) ∷ done ∷ done ∷ done ∷ refused 4 ∷ []
 unfolding run whole
 not-live = refl

@@ -9,16 +9,12 @@ use Rattle.refusals.specs.RefusalLaws.{named, read-back}
 use Rattle.token_record.specs.Record.{Answer, token, none, truth, index, done, refused, Reply}
 use Rattle.window.specs.declared.TokenAnswer.{TokenAnswer}
 use Rattle.window.specs.declared.TokenAnswer.the-variants as of-token
-use Rattle.window.specs.declared.TokenGiven.{TokenGiven}
 use Rattle.window.specs.declared.MoreAnswer.{MoreAnswer}
 use Rattle.window.specs.declared.MoreAnswer.the-variants as of-more
-use Rattle.window.specs.declared.MoreGiven.{MoreGiven}
 use Rattle.window.specs.declared.IndexAnswer.{IndexAnswer}
 use Rattle.window.specs.declared.IndexAnswer.the-variants as of-index
-use Rattle.window.specs.declared.IndexGiven.{IndexGiven}
 use Rattle.window.specs.declared.DoneAnswer.{DoneAnswer}
 use Rattle.window.specs.declared.DoneAnswer.the-variants as of-done
-use Rattle.window.specs.declared.DoneGiven.{DoneGiven}
 use Rattle.window.specs.Window.{State, token-told, more-told, index-told, done-told, token-reply, more-reply, index-reply, done-reply}
 
 -- what can be read back from a reply is told once

@@ -1,7 +1,7 @@
 -- Opening the window is opening the reader: both refuse a source over the limit, and the reader starts where the window does.
 -- Assumes nothing.
 use Prim.Native.Nat.{ℕ, _≤_}
-use mathlib.Core.Path.{_≡_, refl, sym, ap, _∙_}
+use mathlib.Core.Path.{_≡_}
 use mathlib.Core.List.{List}
 use native.Mathlib.Omega.{arith}
 use lib.ListN.{length}
@@ -13,7 +13,6 @@ use Rattle.refusals.specs.declared.Refusal.{Refusal}
 use Rattle.refusals.specs.declared.Refusal.the-variants.{SourceTooLong}
 use Rattle.refusals.specs.Refusals.{number-of}
 use Rattle.scanner.specs.declared.Reader.{Reader}
-use Rattle.scanner.specs.declared.Opened.{Opened}
 use Rattle.scanner.specs.declared.Opened.the-variants.{Ready, Refused}
 use Rattle.scanner.specs.Reading.{source-limit}
 use Rattle.scanner.specs.Reading as reading

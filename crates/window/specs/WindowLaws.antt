@@ -1,27 +1,27 @@
 -- How a call is answered: refused by 24 where the window is not sound; else at once, where it wants no token; else by what `reach`
 -- gives. Fetching nothing changes nothing, and no number of tokens beyond the source's bytes is more than all of them. Assumes nothing.
-use Prim.Native.Nat.{ℕ, zero, suc, min, _+_, _-_, _≤_, _<_}
-use mathlib.Core.Path.{_≡_, refl, sym, ap, _∙_}
-use mathlib.Core.Bool.{Bool, true, false, cond, _&&_}
-use mathlib.Core.List.{List, [], _∷_}
+use Prim.Native.Nat.{ℕ, suc, min, _+_, _-_, _≤_, _<_}
+use mathlib.Core.Path.{_≡_, sym, ap, _∙_}
+use mathlib.Core.Bool.{true, false, _&&_}
+use mathlib.Core.List.{List}
 use native.Mathlib.Omega.{arith}
 use native.Mathlib.Nat.{add-zero}
 use lib.ListN.{length}
 use lib.Dec.{leb, ltb}
-use borrow.Author.Tests.{le-leb, lt-leb, lt-ltb, le-ltb, ltb-true, ltb-false, leb-true, leb-false}
-use Rattle.patterns.specs.Bools.{by-test, and-both}
+use borrow.Author.Tests.{le-leb, lt-leb, le-ltb, ltb-true, ltb-false, leb-true, leb-false}
+use Rattle.patterns.specs.Bools.{by-test}
 use Rattle.tokens.specs.declared.Mode.{Mode}
 use Rattle.tokens.specs.declared.TokenIndex.{TokenIndex}
 use Rattle.refusals.specs.declared.Refusal.{Refusal}
 use Rattle.refusals.specs.Refusals.{number-of}
 use Rattle.scanner.specs.declared.Reader.{Reader}
-use Rattle.scanner.specs.Reading.{source-limit, entered, Ahead, ahead}
+use Rattle.scanner.specs.Reading.{source-limit, entered, ahead}
 use Rattle.scanner.specs.Reading as reading
 use Rattle.scanner.specs.Following.{ahead-none, ahead-all}
 use Rattle.token_record.specs.Record.{Call, done, refused, Reply, reply, wants, least}
-use Rattle.token_room.specs.Room.{nth, write-all}
+use Rattle.token_room.specs.Room.{write-all}
 use Rattle.fetching.specs.declared.Fetched.{Fetched}
-use Rattle.fetching.specs.Fetching.{Outcome, outcome, fetched}
+use Rattle.fetching.specs.Fetching.{outcome, fetched}
 use Rattle.bookmarks.specs.HeldLaws.{least-le}
 use Rattle.window.specs.declared.DoneAnswer.the-variants as of-done
 use Rattle.window.specs.declared.Reached.{Reached}
@@ -85,7 +85,8 @@ module _ (src : List ℕ) (s : State) where
       (λ p. let no : refused 24 ≡ done = rw p at d in let z : _≡_ {A = ℕ} 0 1 = cc in absurd (omega arith))
 
   -- the code's answer r to reaching, and the window w that was read on to what was reached
-  module _ (n : ℕ) (r : Reached) (w : Window) (room : List ℕ) (f : w ≡ read-on (r .reader) (r .fetched .0) (s .window)) (q : done-reply (reached (s .window) r) room ≡ reach src n s) where
+  module _ (n : ℕ) (r : Reached) (w : Window) (room : List ℕ)
+      (f : w ≡ read-on (r .reader) (r .fetched .0) (s .window)) (q : done-reply (reached (s .window) r) room ≡ reach src n s) where
     came : reply (done-told (r .answer)) (state w room) ≡ reach src n s
     came = ap (λ (v : Window). reply (done-told (r .answer)) (state v room)) f ∙ q
 
@@ -155,7 +156,8 @@ module _ (src : List ℕ) (s : State) where
 
 -- The switches: 24, or the reader's own where it stands.
 module _ (src : List ℕ) (s : State) (r : Reader) where
-  pub switches : (c : Call) (m : Mode) → wants c ≡ 0 → (answered c s ≡ reply done (with-window s (switched m (s .window)))) → r ≡ entered m (s .window .reader)
+  pub switches : (c : Call) (m : Mode) → wants c ≡ 0 → (answered c s ≡ reply done (with-window s (switched m (s .window))))
+      → r ≡ entered m (s .window .reader)
       → done-reply (switch (length src) (length (s .room)) r (s .window)) (s .room) ≡ step src c s
   switches c m e a f =
       by-test (sound (length src) (length (s .room)) (s .window))

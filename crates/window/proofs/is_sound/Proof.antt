@@ -6,7 +6,6 @@ use mathlib.Core.Bool.{true}
 use borrow.Author.Needs.{needs}
 use borrow.Author.Tests.{lt-leb, ne-eqb, not-true, not-false}
 use native.Mathlib.Omega.{arith}
-use Rattle.scanner.specs.Reading.{source-limit}
 use Rattle.token_room.specs.Room.{slots-in}
 use Rattle.bookmarks.specs.Bookmarks.{held}
 use Rattle.window.specs.Window.{kept}
@@ -66,8 +65,9 @@ returns-8 c =
     let held-marks : held (a .window .live) (a .window .fetched .0) (a .window .bookmarks) ≡ true =
     sym (marks-tested .before .is-sound .ensures) ∙ not-false _ (marks-tested .if4 .left) in
     let kept-few : kept (a .window) ≤ a .window .slots = omega (arith, c .before .before .before .before .before .kept .ensures) in
-    sound-last (a .bytes) (a .len) (a .window) (marks-tested .before .before .before .before .before .before .before .before .if1 .left) (marks-tested .before .before .before .before .before .before .if2 .left) slots-same held-marks
-    (omega arith) kept-few (omega arith)
+    let limit = marks-tested .before .before .before .before .before .before .before .before .if1 .left in
+    let bytes-same = marks-tested .before .before .before .before .before .before .if2 .left in
+    sound-last (a .bytes) (a .len) (a .window) limit bytes-same slots-same held-marks (omega arith) kept-few (omega arith)
 
 pub is-sound-spec : {M : Type 1} → statement M
 is-sound-spec =

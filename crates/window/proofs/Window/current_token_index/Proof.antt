@@ -23,7 +23,8 @@ returns-2 : tie.Need-returns-2
 unfolding answered
 returns-2 c =
     let a = c .before .before .before .before .before .args in
-    answered-now (a .src .now) (state (a .self) (a .room .now)) current-token-index refl (fit _ _ _ (sym (c .before .before .is-sound .ensures) ∙ not-false _ (c .before .if1 .left)))
+    answered-now (a .src .now) (state (a .self) (a .room .now)) current-token-index refl
+    (fit _ _ _ (sym (c .before .before .is-sound .ensures) ∙ not-false _ (c .before .if1 .left)))
 
 pub current-token-index-spec : {M : Type 1} → statement M
 current-token-index-spec = tie.close (tie.spec is-sound-requires returns returns-2)

@@ -28,8 +28,8 @@ unfolding answered
 returns c =
     let a = c .before .before .before .before .before .before .before .before .before .before .args in
     let g = c .before .before .before .before .before .before .reach in
-    went-on (a .src .now) (state (a .self) (a .room .now)) 1 (g .result) _ (g .last .1 .1 .0) (c .before .before .before .read-on .ensures) (g .ensures) has-more 0 refl refl
-    (c .before .enum-told .given .1)
+    went-on (a .src .now) (state (a .self) (a .room .now)) 1 (g .result) _ (g .last .1 .1 .0) (c .before .before .before .read-on .ensures) (g .ensures)
+    has-more 0 refl refl (c .before .enum-told .given .1)
 
 same-length-2 : tie.Need-same-length-2
 same-length-2 c = search needs
@@ -38,8 +38,8 @@ returns-2 : tie.Need-returns-2
 returns-2 c =
     let a = c .before .before .before .before .before .before .before .before .before .before .args in
     let g = c .before .before .before .before .before .before .reach in
-    refused-there (a .src .now) (state (a .self) (a .room .now)) 1 (g .result) _ (g .last .1 .1 .0) (c .before .before .before .read-on .ensures) (g .ensures) has-more 0 refl refl _
-    (c .before .answer .given .1)
+    refused-there (a .src .now) (state (a .self) (a .room .now)) 1 (g .result) _ (g .last .1 .1 .0) (c .before .before .before .read-on .ensures) (g .ensures)
+    has-more 0 refl refl _ (c .before .answer .given .1)
 
 pub has-more-spec : {M : Type 1} → statement M
 has-more-spec =

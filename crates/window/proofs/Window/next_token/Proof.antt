@@ -22,7 +22,8 @@ look-requires : tie.Need-look-requires
 look-requires c κs =
     let a = c .before .before .before .before .before .before .before .before .before .before .args in
     let g = c .before .before .before .before .before .before .reach in
-    reached-low (a .src .now) (state (a .self) (a .room .now)) 1 (g .result) _ _ (c .before .before .before .read-on .ensures) (g .ensures) (c .before .enum-told .given .1)
+    reached-low (a .src .now) (state (a .self) (a .room .now)) 1 (g .result) _ _ (c .before .before .before .read-on .ensures) (g .ensures)
+    (c .before .enum-told .given .1)
 
 past-requires : tie.Need-past-requires
 past-requires c κs = search needs
@@ -38,8 +39,8 @@ returns c =
     let a = c .before .before .before .before .before .before .before .before .before .before .before .before .args in
     let g = c .before .before .before .before .before .before .before .before .reach in
     took (state (c .before .before .before .before .before .read-on .result) (g .last .1 .1 .0)) _ _ (c .before .look .ensures) (c .past .ensures)
-    ∙ went-on (a .src .now) (state (a .self) (a .room .now)) 1 (g .result) _ (g .last .1 .1 .0) (c .before .before .before .before .before .read-on .ensures) (g .ensures) next-token 0 refl refl
-    (c .before .before .before .enum-told .given .1)
+    ∙ went-on (a .src .now) (state (a .self) (a .room .now)) 1 (g .result) _ (g .last .1 .1 .0) (c .before .before .before .before .before .read-on .ensures) (g .ensures)
+    next-token 0 refl refl (c .before .before .before .enum-told .given .1)
 
 same-length-2 : tie.Need-same-length-2
 same-length-2 c = search needs
@@ -48,8 +49,8 @@ returns-2 : tie.Need-returns-2
 returns-2 c =
     let a = c .before .before .before .before .before .before .before .before .before .before .args in
     let g = c .before .before .before .before .before .before .reach in
-    refused-there (a .src .now) (state (a .self) (a .room .now)) 1 (g .result) _ (g .last .1 .1 .0) (c .before .before .before .read-on .ensures) (g .ensures) next-token 0 refl refl _
-    (c .before .answer .given .1)
+    refused-there (a .src .now) (state (a .self) (a .room .now)) 1 (g .result) _ (g .last .1 .1 .0) (c .before .before .before .read-on .ensures) (g .ensures)
+    next-token 0 refl refl _ (c .before .answer .given .1)
 
 pub next-token-spec : {M : Type 1} → statement M
 next-token-spec =

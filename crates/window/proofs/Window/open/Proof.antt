@@ -42,7 +42,8 @@ returns c =
 returns-2 : tie.Need-returns-2
 returns-2 c =
     let a = c .before .before .before .before .before .before .before .args in
-    not-ready (a .src .now) (a .room .now) _ _ (sym (c .before .before .refusal .given .1) ∙ c .before .before .before .before .«open» .ensures) (c .nothing .ensures)
+    not-ready (a .src .now) (a .room .now) _ _ (sym (c .before .before .refusal .given .1) ∙ c .before .before .before .before .«open» .ensures)
+    (c .nothing .ensures)
 
 pub open-spec : {M : Type 1} → statement M
 open-spec =

@@ -23,7 +23,8 @@ look-requires : tie.Need-look-requires
 look-requires c κs =
     let a = c .before .before .before .before .before .before .before .before .before .before .args in
     let g = c .before .before .before .before .before .before .reach in
-    reached-low (a .src .now) (state (a .self) (a .room .now)) (suc (a .n)) (g .result) _ _ (c .before .before .before .read-on .ensures) (g .ensures) (c .before .enum-told .given .1)
+    reached-low (a .src .now) (state (a .self) (a .room .now)) (suc (a .n)) (g .result) _ _ (c .before .before .before .read-on .ensures) (g .ensures)
+    (c .before .enum-told .given .1)
 
 enum-known-answer : tie.Need-enum-known-answer
 enum-known-answer c = search needs
@@ -36,8 +37,8 @@ returns c =
     let a = c .before .before .before .before .before .before .before .before .before .before .before .args in
     let g = c .before .before .before .before .before .before .before .reach in
     peeked (state (c .before .before .before .before .read-on .result) (g .last .1 .1 .0)) (a .n) _ (c .look .ensures)
-    ∙ went-on (a .src .now) (state (a .self) (a .room .now)) (suc (a .n)) (g .result) _ (g .last .1 .1 .0) (c .before .before .before .before .read-on .ensures) (g .ensures) (peek-token (a .n)) (a .n) refl refl
-    (c .before .before .enum-told .given .1)
+    ∙ went-on (a .src .now) (state (a .self) (a .room .now)) (suc (a .n)) (g .result) _ (g .last .1 .1 .0) (c .before .before .before .before .read-on .ensures) (g .ensures)
+    (peek-token (a .n)) (a .n) refl refl (c .before .before .enum-told .given .1)
 
 same-length-2 : tie.Need-same-length-2
 same-length-2 c = search needs
@@ -46,8 +47,8 @@ returns-2 : tie.Need-returns-2
 returns-2 c =
     let a = c .before .before .before .before .before .before .before .before .before .before .args in
     let g = c .before .before .before .before .before .before .reach in
-    refused-there (a .src .now) (state (a .self) (a .room .now)) (suc (a .n)) (g .result) _ (g .last .1 .1 .0) (c .before .before .before .read-on .ensures) (g .ensures) (peek-token (a .n)) (a .n) refl refl _
-    (c .before .answer .given .1)
+    refused-there (a .src .now) (state (a .self) (a .room .now)) (suc (a .n)) (g .result) _ (g .last .1 .1 .0) (c .before .before .before .read-on .ensures) (g .ensures)
+    (peek-token (a .n)) (a .n) refl refl _ (c .before .answer .given .1)
 
 pub peek-token-spec : {M : Type 1} → statement M
 peek-token-spec =
