@@ -20,9 +20,9 @@ pub enum Fetched {
 }
 
 // Where storing has come to: the reader behind the tokens, and the index that comes next.
-pub struct Stored {
-    pub reader: Reader,
-    pub next: TokenIndex,
+struct Stored {
+    reader: Reader,
+    next: TokenIndex,
 }
 
 // Fetches `need` tokens from the reader on, or all up to the end; the first of them has the index `first`. Where they are more than

@@ -80,10 +80,10 @@ pub struct DoneGiven {
 }
 
 // What reaching a token comes to: whether it was refused, and the reader and the number of tokens fetched after it.
-pub struct Reached {
-    pub answer: DoneAnswer,
-    pub reader: Reader,
-    pub fetched: TokenIndex,
+struct Reached {
+    answer: DoneAnswer,
+    reader: Reader,
+    fetched: TokenIndex,
 }
 
 impl Window {
