@@ -10,6 +10,7 @@ use lib.ListN.{length, take, drop, getD, List·getD-eq-default}
 use lib.Seq.{drop-cons, take-all}
 use lib.Dec.{leb}
 use Rattle.patterns.specs.Bools.{by-test}
+use Rattle.tokens.specs.NoneOf.{NoneOf}
 use Rattle.token_record.specs.Record.{Call, current-token-index, Reply, run}
 use Rattle.replay.specs.Script.{calls, call-of, calls-of}
 
@@ -18,18 +19,18 @@ pub call-at : (op arg n : ℕ) → op ≡ n → call-of op arg ≡ getD (calls a
 unfolding call-of
 call-at op arg n e = rw e
 
--- a number that is none of the first n
-abbrev pub None-of : ℕ → ℕ → Type 0
-None-of op zero = Unit {0}
-None-of op (suc n) = None-of op n × (op ≡ n → ⊥)
+-- the numbers below n, the last first; one that is none of them
+abbrev pub below : ℕ → List ℕ
+below zero = []
+below (suc n) = n ∷ below n
 
-none-of : (op n : ℕ) → None-of op n → n ≤ op
-none-of op zero h = omega arith
-none-of op (suc n) h = let i = none-of op n (h .0) in let d = h .1 in omega arith
+none-below : (n op : ℕ) → NoneOf (below n) op → n ≤ op
+none-below zero op h = omega arith
+none-below (suc n) op h = let i = none-below n op (h .0) in let d = h .1 in omega arith
 
-pub call-beyond : (op arg : ℕ) → None-of op 8 → call-of op arg ≡ current-token-index
+pub call-beyond : (op arg : ℕ) → NoneOf (below 8) op → call-of op arg ≡ current-token-index
 unfolding call-of
-call-beyond op arg h = List·getD-eq-default (calls arg) current-token-index (none-of op 8 h)
+call-beyond op arg h = List·getD-eq-default (calls arg) current-token-index (none-below 8 op h)
 
 -- Two numbers, and the calls behind them.
 pub script-call : (i n : ℕ) (script : List ℕ) → i < n → n * 2 ≤ length script
