@@ -7,8 +7,9 @@ use mathlib.Core.Logic.{_⊎_, inl, inr, _↔_}
 use mathlib.Core.List.{List, [], _∷_}
 use lib.ListN.{length}
 use Rattle.patterns.specs.Bools.{by-test}
+use Rattle.refusals.specs.Calls.{run}
 use Rattle.scanner.specs.Reading.{source-limit}
-use Rattle.token_record.specs.Record.{Call, Answer, refused, run, Record, opened, whole, outnumbers, bounded}
+use Rattle.token_record.specs.Record.{Call, Answer, refused, Record, opened, whole, outnumbers, bounded}
 use Rattle.token_room.specs.Room.{slots-in}
 use Rattle.window.specs.Window.{start, step}
 use Rattle.demand3.specs.Simulation.{simulated}

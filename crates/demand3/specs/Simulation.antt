@@ -5,8 +5,9 @@ use mathlib.Core.Path.{_≡_, refl, ap}
 use mathlib.Core.List.{List, [], _∷_}
 use lib.ListN.{length}
 use Rattle.patterns.specs.Bools.{by-test}
+use Rattle.refusals.specs.Calls.{run, after-all}
 use Rattle.scanner.specs.Reading.{source-limit}
-use Rattle.token_record.specs.Record.{Call, Answer, run, after-all, Record, opened, wants, fetch, outnumbers, bounded, whole}
+use Rattle.token_record.specs.Record.{Call, Answer, Record, opened, wants, fetch, outnumbers, bounded, whole}
 use Rattle.token_room.specs.Room.{slots-in, write-all}
 use Rattle.window.specs.Window.{start, step}
 use Rattle.demand3.specs.Standing.{state-of, reply-of, start-of, Good, good-opened, sound-of}

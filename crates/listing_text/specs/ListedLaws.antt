@@ -1,7 +1,7 @@
 -- The cases of what `list` answers, from what opening says and whether the text fits; how much room is always enough; and that the contract
 -- leaves no choice. Each is one look at the definition's tests. Assumes nothing.
 use Prim.Native.Nat.{ℕ, _+_, _≤_, zero-le}
-use mathlib.Core.Path.{_≡_, refl, sym, ap, _∙_}
+use mathlib.Core.Path.{_≡_, refl, ap}
 use mathlib.Core.Bool.{Bool, true, false, cond}
 use mathlib.Core.List.{List, _++_}
 use native.Mathlib.Omega.{arith}
@@ -9,6 +9,7 @@ use lib.ListN.{length, take, drop, length-append}
 use lib.Seq.{take-append-seam}
 use lib.Dec.{leb}
 use borrow.Author.Tests.{leb-true, le-leb}
+use Rattle.patterns.specs.Determined.{Once, once}
 use Rattle.refusals.specs.declared.Refusal.{Refusal}
 use Rattle.refusals.specs.declared.Refusal.the-variants.{SourceTooLong, NoRoom}
 use Rattle.tokens.specs.declared.Mode.the-variants.{Normal}
@@ -85,6 +86,6 @@ module _ (src out : List ℕ) where
   listed-written {n} {o} e =
       written-front (text (tokens tables-1 Normal src)) out (not-refused (leb (length src) source-limit) (written (text (tokens tables-1 Normal src)) out) SourceTooLong out e)
 
-  -- two results that meet the contract are equal
-  pub listed-once : {a b : Listed} {o p : List ℕ} → outcome a o ≡ listed src out → outcome b p ≡ listed src out → (a ≡ b) × (o ≡ p)
-  listed-once e f = (ap (λ (x : Outcome). x .answer) (e ∙ sym f), ap (λ (x : Outcome). x .out) (e ∙ sym f))
+-- two results that meet the contract are equal
+pub listed-once : Once (λ (p : Listed × List ℕ). outcome (p .0) (p .1))
+listed-once = once _ (λ o. (o .answer, o .out)) (λ p. refl)

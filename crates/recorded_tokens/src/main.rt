@@ -3,8 +3,6 @@
 // A record is a line: the mode, the source in hexadecimal and a space; then, for each token, a space, its kind, `:` and its end. It
 // stops at the first INVALID_UTF8 or UNKNOWN, of which it has a space, the kind, `@` and the start. The scanner's answers must give the
 // very same bytes, so a line that is no record counts as one that differs.
-ghost use Prim.Native.Nat.{_≤_};
-ghost use lib.ListN.{length};
 use libc::STDERR_FILENO;
 use libc::STDIN_FILENO;
 use libc::STDOUT_FILENO;
@@ -239,21 +237,6 @@ fn is_right(record: &[u8]) -> bool {
     false
 }
 
-// Where the line that starts at the place ends: at its LF, or with the text.
-fn line_end(text: &[u8], from: usize) -> usize
-    requires { ⌜ from ≤ length (now text) ⌝ }
-    ensures { λ r. ⌜ (from ≤ r) × (r ≤ length (now (text .entry))) ⌝ }
-{
-    let mut at = from;
-    while at < text.len() {
-        if text[at] == b'\n' {
-            return at;
-        }
-        at += 1;
-    }
-    at
-}
-
 // Names a line that differs.
 fn write_differs(line: usize) {
     io::write_all(STDOUT_FILENO, b"line ");
@@ -267,7 +250,7 @@ fn replay_lines(text: &[u8]) -> Tally {
     let mut differ = 0;
     let mut at = 0;
     while at < text.len() {
-        let end = line_end(text, at);
+        let end = lines::line_end(text, at);
         lines += 1;
         if end == text.len() || !is_right(&text[at..end]) {
             write_differs(lines);

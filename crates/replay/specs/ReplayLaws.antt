@@ -1,7 +1,7 @@
 -- What replaying writes, by how opening answers: refused, the source is over the limit; done, the calls run on the window as it is at
 -- the start, where demand 3 says that they answer as the record does. Assumes nothing.
 use Prim.Native.Nat.{ℕ, suc, min, _+_, _-_, _/_, _≤_}
-use mathlib.Core.Path.{_≡_, ap, _∙_}
+use mathlib.Core.Path.{_≡_, refl, ap, _∙_}
 use mathlib.Core.Bool.{Bool, true, false, cond}
 use mathlib.Core.List.{List}
 use native.Mathlib.Omega.{arith}
@@ -10,16 +10,17 @@ use lib.ListN.{length, take, length-take}
 use lib.Seq.{sets}
 use lib.Dec.{leb}
 use Rattle.patterns.specs.Bools.{by-test}
-use Rattle.patterns.specs.Determined.{determined}
+use Rattle.patterns.specs.Determined.{Once, once}
+use Rattle.refusals.specs.Calls.{run, after-all}
+use Rattle.refusals.specs.declared.DoneAnswer.the-variants.{Done, Refused}
 use Rattle.refusals.specs.declared.Refusal.{Refusal}
 use Rattle.scanner.specs.Reading.{source-limit}
-use Rattle.token_record.specs.Record.{done, refused, Reply, run, after-all, opened, bounded}
+use Rattle.token_record.specs.Record.{done, refused, Reply, opened, bounded}
 use Rattle.token_room.specs.Room.{slots-in}
-use Rattle.window.specs.declared.DoneAnswer.the-variants.{Done, Refused}
 use Rattle.window.specs.declared.DoneGiven.{DoneGiven}
 use Rattle.window.specs.Window.{State, state, step, start, open-of, done-told, done-reply}
 use Rattle.demand3.specs.Simulation.{simulated, room-after}
-use Rattle.replay.specs.Script.{calls-of, width, numbers, all-numbers, Outcome, outcome, replayed}
+use Rattle.replay.specs.Script.{calls-of, width, numbers, all-numbers, outcome, replayed}
 use Rattle.replay.specs.Running.{Lent, lent, ran}
 use Rattle.replay.specs.ScriptLaws.{length-calls, take-few, length-run}
 
@@ -74,9 +75,6 @@ module _ (src script room answers : List ℕ) where
         omega (arith, length-run (bounded (slots-in (length room)) src) cs opened, length-take (k - 1) (calls-of script), length-calls script) in
         rw (le-leb 1 k place, o .0, b, d, simulated src room cs h, room-after src room cs h, i)
 
-  -- two results that satisfy the promise are equal, with every lent number
-  pub replayed-once : {n m : ℕ} {r s a b : List ℕ} → outcome n r a ≡ replayed src script room answers → outcome m s b ≡ replayed src script room answers
-      → (n ≡ m) × (r ≡ s) × (a ≡ b)
-  replayed-once e f =
-      let q = determined e f in
-      (ap (λ (x : Outcome). x .count) q, ap (λ (x : Outcome). x .room) q, ap (λ (x : Outcome). x .answers) q)
+-- two results that satisfy the promise are equal, with every lent number
+pub replayed-once : Once (λ (p : ℕ × List ℕ × List ℕ). outcome (p .0) (p .1) (p .2))
+replayed-once = once _ (λ o. (o .count, o .room, o .answers)) (λ p. refl)

@@ -5,7 +5,8 @@ use mathlib.Core.Path.{_≡_, refl}
 use mathlib.Core.List.{List, [], _∷_, _++_}
 use native.Mathlib.Numerals.{unary-clauses}
 use lib.Seq.{sets}
-use Rattle.token_record.specs.Record.{Call, Answer, token, none, truth, index, done, refused, Reply, reply, run, after-all}
+use Rattle.refusals.specs.Calls.{run, after-all}
+use Rattle.token_record.specs.Record.{Call, Answer, token, none, truth, index, done, refused, Reply, reply}
 use Rattle.window.specs.declared.Window.{Window}
 use Rattle.window.specs.Window.{State, state, step}
 use Rattle.replay.specs.Script.{width, numbers, all-numbers}

@@ -7,11 +7,12 @@ use mathlib.Core.List.{List, [], _∷_, _++_}
 use lib.ListN.{length, take, getD}
 use lib.Seq.{sets}
 use lib.Dec.{leb}
+use Rattle.refusals.specs.Calls.{run, after-all}
 use Rattle.refusals.specs.declared.Refusal.the-variants.{SourceTooLong}
 use Rattle.refusals.specs.Refusals.{number-of}
 use Rattle.tokens.specs.Tokens.{ascii}
 use Rattle.scanner.specs.Reading.{source-limit}
-use Rattle.token_record.specs.Record.{Call, next-token, peek-token, has-more, bookmark, restore-bookmark, remove-bookmark, current-token-index, enter-hex-pattern-mode, enter-hex-jump-mode, Answer, token, none, truth, index, done, refused, run, after-all, opened, bounded}
+use Rattle.token_record.specs.Record.{Call, next-token, peek-token, has-more, bookmark, restore-bookmark, remove-bookmark, current-token-index, enter-hex-pattern-mode, enter-hex-jump-mode, Answer, token, none, truth, index, done, refused, opened, bounded}
 use Rattle.token_room.specs.Room.{slots-in, nth, write-all}
 
 -- A call is two numbers: which one, and its argument.

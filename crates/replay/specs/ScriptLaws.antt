@@ -11,7 +11,8 @@ use lib.Seq.{drop-cons, take-all}
 use lib.Dec.{leb}
 use Rattle.patterns.specs.Bools.{by-test}
 use Rattle.tokens.specs.NoneOf.{NoneOf}
-use Rattle.token_record.specs.Record.{Call, current-token-index, Reply, run}
+use Rattle.refusals.specs.Calls.{run}
+use Rattle.token_record.specs.Record.{Call, current-token-index, Reply}
 use Rattle.replay.specs.Script.{calls, call-of, calls-of}
 
 -- The call of a number.

@@ -5,10 +5,11 @@ use mathlib.Core.Path.{_≡_, refl}
 use mathlib.Core.Bool.{true, false}
 use mathlib.Core.List.{List, [], _∷_, _++_}
 use lib.ListN.{replicate}
+use Rattle.refusals.specs.Calls.{run, after-all}
 use Rattle.tokens.specs.declared.TokenIndex.{TokenIndex}
 use Rattle.tokens.specs.Tokens.{ascii}
 use Rattle.tokens.specs.Scan.{token}
-use Rattle.token_record.specs.Record.{Call, next-token, peek-token, has-more, bookmark, restore-bookmark, remove-bookmark, current-token-index, enter-hex-pattern-mode, enter-hex-jump-mode, Answer, none, truth, index, done, refused, run, after-all, opened, fetch, whole, outnumbers, bounded}
+use Rattle.token_record.specs.Record.{Call, next-token, peek-token, has-more, bookmark, restore-bookmark, remove-bookmark, current-token-index, enter-hex-pattern-mode, enter-hex-jump-mode, Answer, none, truth, index, done, refused, opened, fetch, whole, outnumbers, bounded}
 use Rattle.token_record.specs.Record as record-of
 
 abbrev at : ℕ → TokenIndex

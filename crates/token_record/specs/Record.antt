@@ -5,6 +5,7 @@ use mathlib.Core.Bool.{Bool, false, cond, _&&_, _||_}
 use mathlib.Core.List.{List, [], _∷_, _++_}
 use lib.ListN.{length, drop}
 use lib.Dec.{eqb, leb, ltb}
+use Rattle.refusals.specs.Calls as calls
 use Rattle.tokens.specs.declared.Mode.{Mode}
 use Rattle.tokens.specs.declared.Mode.the-variants.{Normal, HexPattern, HexJump}
 use Rattle.tokens.specs.declared.Token.{Token}
@@ -26,21 +27,11 @@ pub data Answer : Type 0 where
   index : TokenIndex → Answer
   refused : ℕ → Answer
 
--- An answer, and the state after it; the answers to calls, one after the other, and the state after all of them.
-pub record Reply (S : Type 0) : Type 0 where
-  pub answer : Answer
-  pub after : S
+abbrev pub Reply : Type 0 → Type 0
+Reply S = calls.Reply Answer S
 
 abbrev pub reply : {S : Type 0} → Answer → S → Reply S
-reply a s = record { answer = a; after = s }
-
-unfoldable pub run : {S : Type 0} → (Call → S → Reply S) → List Call → S → List Answer
-run f [] s = []
-run f (c ∷ cs) s = f c s .answer ∷ run f cs (f c s .after)
-
-unfoldable pub after-all : {S : Type 0} → (Call → S → Reply S) → List Call → S → S
-after-all f [] s = s
-after-all f (c ∷ cs) s = after-all f cs (f c s .after)
+reply a s = calls.reply a s
 
 -- The record: every token fetched so far, the mode in which scanning goes on, the current index, the live bookmarks in no order.
 pub record Record : Type 0 where

@@ -5,14 +5,15 @@ use mathlib.Core.Path.{_≡_, refl, ap, sym, _∙_}
 use mathlib.Core.List.{List, [], _∷_, _++_}
 use native.Mathlib.Omega.{arith}
 use native.Mathlib.Nat.{add-zero, zero-add, mod-lt, mod-eq-of-lt, mod-add-mod, mod-eq-sub-mod}
-use lib.ListN.{length, getD, set, length-set}
-use lib.Seq.{getD-set-same, getD-set-other, sets}
+use lib.ListN.{length, getD}
+use lib.Seq.{sets}
 use lib.Dec.{ltb}
 use borrow.Author.Tests.{ltb-true, ltb-false}
 use Rattle.patterns.specs.Bools.{by-test}
+use Rattle.rooms.specs.declared.Slot.{Slot}
+use Rattle.rooms.specs.Stores.{sets-other, sets-here}
 use Rattle.tokens.specs.declared.Token.{Token}
 use Rattle.tokens.specs.Scan.{token}
-use Rattle.token_room.specs.declared.Slot.{Slot}
 use Rattle.token_room.specs.Room.{width, numbers, from-numbers, slots-in, slot-of, write-at, read-at, write, read, nth, write-all}
 use Rattle.token_room.specs.RoomLaws.{write-slot, read-slot, length-write}
 
@@ -36,21 +37,6 @@ module _ (w i j : ℕ) (h : i < j) (d : j < i + w) (e : i % w ≡ j % w) where
 
   slots-differ : ⊥
   slots-differ = by-test (ltb sum w) (λ b. not-under (ltb-true sum w b)) (λ b. not-over (ltb-false sum w b))
-
--- stores one after the other, read elsewhere and where they are
-sets-other : (vs l : List ℕ) (i j : ℕ) → ((k : ℕ) → k < length vs → j ≡ i + k → ⊥) → getD (sets l i vs) j 0 ≡ getD l j 0
-sets-other [] l i j d = refl
-sets-other (a ∷ vs) l i j d =
-    sets-other vs (set l i a) (suc i) j (λ k h e. d (suc k) (omega arith) (omega (arith, e)))
-    ∙ getD-set-other l i j a 0 (λ e. d 0 (omega arith) (omega (arith, e)))
-
-sets-here : (vs l : List ℕ) (i j : ℕ) → j < length vs → i + length vs ≤ length l → getD (sets l i vs) (i + j) 0 ≡ getD vs j 0
-sets-here [] l i j h k = absurd (omega arith)
-sets-here (a ∷ vs) l i zero h k =
-    rw add-zero (sets-other vs (set l i a) (suc i) i (λ k h e. omega (arith, e)) ∙ getD-set-same l i a 0 (omega arith))
-sets-here (a ∷ vs) l i (suc j) h k =
-    let e : i + suc j ≡ suc i + j = omega arith in
-    rw e (sets-here vs (set l i a) (suc i) j (omega arith) (omega (arith, length-set l i a)))
 
 -- a token is its numbers
 same-numbers : (f g : ℕ → ℕ) → ((j : ℕ) → j < width → f j ≡ g j) → from-numbers f ≡ from-numbers g

@@ -6,10 +6,10 @@ use mathlib.Core.List.{List, [], _∷_}
 use lib.ListN.{length, getD}
 use lib.Seq.{sets}
 use lib.Dec.{leb}
+use Rattle.rooms.specs.declared.Slot.{Slot}
 use Rattle.tokens.specs.declared.Token.{Token}
 use Rattle.tokens.specs.declared.TokenIndex.{TokenIndex}
 use Rattle.tokens.specs.Scan.{token}
-use Rattle.token_room.specs.declared.Slot.{Slot}
 
 -- The numbers of a slot, from a token and back.
 abbrev pub width : ℕ

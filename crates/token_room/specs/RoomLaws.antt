@@ -10,10 +10,10 @@ use lib.ListN.{length, getD, set}
 use lib.Seq.{length-sets}
 use lib.Dec.{leb}
 use Rattle.patterns.specs.Bools.{by-test}
+use Rattle.rooms.specs.declared.Slot.{Slot}
 use Rattle.tokens.specs.declared.Token.{Token}
 use Rattle.tokens.specs.declared.TokenIndex.{TokenIndex}
 use Rattle.tokens.specs.Scan.{token}
-use Rattle.token_room.specs.declared.Slot.{Slot}
 use Rattle.token_room.specs.Room.{width, numbers, slots-in, slot-of, write-at, read-at, write, read, nth, write-all}
 
 -- three stores are a token written, and three loads are one read

@@ -3,15 +3,13 @@ ghost use mathlib.Core.Path.{_≡_};
 ghost use Prim.Native.Nat.{_+_, _*_, _≤_, _<_};
 ghost use lib.ListN.{length};
 ghost use Rattle.token_room.specs.Room.{width, slots-in, slot-of, write-at, read-at, write, read};
+use rooms::Slot;
 use tokens::Offset;
 use tokens::Token;
 use tokens::TokenIndex;
 
 // How many numbers a slot has: those of a token.
 pub const WIDTH: usize = 3;
-
-// A slot of the room.
-pub struct Slot(pub u32);
 
 // How many slots a room of this length has.
 pub fn slots(len: usize) -> usize
@@ -51,8 +49,7 @@ fn slot_of(i: TokenIndex, slots: usize) -> Slot
     requires { ⌜ 0 < slots ⌝ }
     ensures { λ r. ⌜ r ≡ slot-of i slots ⌝ }
 {
-    let k = (i.0 as usize) % slots;
-    Slot(k as u32)
+    Slot((i.0 as usize) % slots)
 }
 
 // Writes a token into a slot.
@@ -60,7 +57,7 @@ fn write_at(room: &mut [u32], at: Slot, token: Token)
     requires { ⌜ at .0 * width + width ≤ length (now room) ⌝ }
     ensures { λ r. ⌜ now (room .exit) ≡ write-at (now (room .entry)) at token ⌝ }
 {
-    let k = (at.0 as usize) * WIDTH;
+    let k = at.0 * WIDTH;
     room[k] = token.kind;
     room[k + 1] = token.start.0;
     room[k + 2] = token.end.0;
@@ -71,7 +68,7 @@ fn read_at(room: &[u32], at: Slot) -> Token
     requires { ⌜ at .0 * width + width ≤ length (now room) ⌝ }
     ensures { λ r. ⌜ r ≡ read-at (now (room .entry)) at ⌝ }
 {
-    let k = (at.0 as usize) * WIDTH;
+    let k = at.0 * WIDTH;
     Token {
         kind: room[k],
         start: Offset(room[k + 1]),

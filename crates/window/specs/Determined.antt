@@ -1,31 +1,25 @@
 -- The promises leave no choice: two results of a call that satisfy its contract are equal, with every lent number. For the code's
 -- answers can be read back from document 01's values, by which the contracts speak of them. Assumes nothing.
 use Prim.Native.Nat.{ℕ}
-use mathlib.Core.Path.{_≡_, refl, sym, ap, _∙_}
+use mathlib.Core.Path.{_≡_, refl, ap}
 use mathlib.Core.Bool.{false}
 use mathlib.Core.List.{List}
-use Rattle.patterns.specs.Determined.{determined}
+use Rattle.patterns.specs.Determined.{Once, once}
+use Rattle.refusals.specs.declared.DoneAnswer.{DoneAnswer}
+use Rattle.refusals.specs.declared.DoneAnswer.the-variants as of-done
 use Rattle.refusals.specs.RefusalLaws.{named, read-back}
-use Rattle.token_record.specs.Record.{Answer, token, none, truth, index, done, refused, Reply}
+use Rattle.token_record.specs.Record.{Answer, token, none, truth, index, done, refused}
 use Rattle.window.specs.declared.TokenAnswer.{TokenAnswer}
 use Rattle.window.specs.declared.TokenAnswer.the-variants as of-token
+use Rattle.window.specs.declared.TokenGiven.{TokenGiven}
 use Rattle.window.specs.declared.MoreAnswer.{MoreAnswer}
 use Rattle.window.specs.declared.MoreAnswer.the-variants as of-more
+use Rattle.window.specs.declared.MoreGiven.{MoreGiven}
 use Rattle.window.specs.declared.IndexAnswer.{IndexAnswer}
 use Rattle.window.specs.declared.IndexAnswer.the-variants as of-index
-use Rattle.window.specs.declared.DoneAnswer.{DoneAnswer}
-use Rattle.window.specs.declared.DoneAnswer.the-variants as of-done
-use Rattle.window.specs.Window.{State, token-told, more-told, index-told, done-told, token-reply, more-reply, index-reply, done-reply}
-
--- what can be read back from a reply is told once
-abbrev pub Once : {G : Type 0} → (G → List ℕ → Reply State) → Type 0
-Once {G} told = (r : Reply State) (g h : G) (room room′ : List ℕ) → told g room ≡ r → told h room′ ≡ r → (g ≡ h) × (room ≡ room′)
-
-module _ {G : Type 0} (told : G → List ℕ → Reply State) (read : Reply State → G) where
-  once : ((g : G) (room : List ℕ) → read (told g room) ≡ g) → ((g : G) (room : List ℕ) → told g room .after .room ≡ room) → Once told
-  once same kept r g h room room′ e f =
-      let q = determined e f in
-      (sym (same g room) ∙ ap read q ∙ same h room′, sym (kept g room) ∙ ap (λ (x : Reply State). x .after .room) q ∙ kept h room′)
+use Rattle.window.specs.declared.IndexGiven.{IndexGiven}
+use Rattle.window.specs.declared.DoneGiven.{DoneGiven}
+use Rattle.window.specs.Window.{token-told, more-told, index-told, done-told, token-reply, more-reply, index-reply, done-reply}
 
 -- next_token and peek_token
 abbrev token-read : Answer → TokenAnswer
@@ -41,10 +35,10 @@ token-same (of-token.Token x) = refl
 token-same of-token.None = refl
 token-same (of-token.Refused n) = ap of-token.Refused (read-back n)
 
-pub token-once : Once token-reply
+pub token-once : Once (λ (p : TokenGiven × List ℕ). token-reply (p .0) (p .1))
 token-once =
-    once token-reply (λ r. record { answer = token-read (r .answer); window = r .after .window })
-    (λ g room. ap (λ (a : TokenAnswer). record { answer = a; window = g .window }) (token-same (g .answer))) (λ g room. refl)
+    once _ (λ r. (record { answer = token-read (r .answer); window = r .after .window }, r .after .room))
+    (λ p. ap (λ (a : TokenAnswer). (record { answer = a; window = p .0 .window }, p .1)) (token-same (p .0 .answer)))
 
 -- has_more
 abbrev more-read : Answer → MoreAnswer
@@ -59,10 +53,10 @@ more-same : (a : MoreAnswer) → more-read (more-told a) ≡ a
 more-same (of-more.More b) = refl
 more-same (of-more.Refused n) = ap of-more.Refused (read-back n)
 
-pub more-once : Once more-reply
+pub more-once : Once (λ (p : MoreGiven × List ℕ). more-reply (p .0) (p .1))
 more-once =
-    once more-reply (λ r. record { answer = more-read (r .answer); window = r .after .window })
-    (λ g room. ap (λ (a : MoreAnswer). record { answer = a; window = g .window }) (more-same (g .answer))) (λ g room. refl)
+    once _ (λ r. (record { answer = more-read (r .answer); window = r .after .window }, r .after .room))
+    (λ p. ap (λ (a : MoreAnswer). (record { answer = a; window = p .0 .window }, p .1)) (more-same (p .0 .answer)))
 
 -- bookmark and current_token_index
 abbrev index-read : Answer → IndexAnswer
@@ -77,10 +71,10 @@ index-same : (a : IndexAnswer) → index-read (index-told a) ≡ a
 index-same (of-index.Index i) = refl
 index-same (of-index.Refused n) = ap of-index.Refused (read-back n)
 
-pub index-once : Once index-reply
+pub index-once : Once (λ (p : IndexGiven × List ℕ). index-reply (p .0) (p .1))
 index-once =
-    once index-reply (λ r. record { answer = index-read (r .answer); window = r .after .window })
-    (λ g room. ap (λ (a : IndexAnswer). record { answer = a; window = g .window }) (index-same (g .answer))) (λ g room. refl)
+    once _ (λ r. (record { answer = index-read (r .answer); window = r .after .window }, r .after .room))
+    (λ p. ap (λ (a : IndexAnswer). (record { answer = a; window = p .0 .window }, p .1)) (index-same (p .0 .answer)))
 
 -- opening, restore_bookmark, remove_bookmark and the switches
 abbrev done-read : Answer → DoneAnswer
@@ -95,7 +89,7 @@ done-same : (a : DoneAnswer) → done-read (done-told a) ≡ a
 done-same of-done.Done = refl
 done-same (of-done.Refused n) = ap of-done.Refused (read-back n)
 
-pub done-once : Once done-reply
+pub done-once : Once (λ (p : DoneGiven × List ℕ). done-reply (p .0) (p .1))
 done-once =
-    once done-reply (λ r. record { answer = done-read (r .answer); window = r .after .window })
-    (λ g room. ap (λ (a : DoneAnswer). record { answer = a; window = g .window }) (done-same (g .answer))) (λ g room. refl)
+    once _ (λ r. (record { answer = done-read (r .answer); window = r .after .window }, r .after .room))
+    (λ p. ap (λ (a : DoneAnswer). (record { answer = a; window = p .0 .window }, p .1)) (done-same (p .0 .answer)))

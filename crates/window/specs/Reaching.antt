@@ -5,6 +5,8 @@ use mathlib.Core.Bool.{cond}
 use mathlib.Core.List.{List}
 use lib.ListN.{length}
 use lib.Dec.{ltb}
+use Rattle.refusals.specs.declared.DoneAnswer.{DoneAnswer}
+use Rattle.refusals.specs.declared.DoneAnswer.the-variants as of-done
 use Rattle.refusals.specs.declared.Refusal.the-variants.{NotAsOpened}
 use Rattle.scanner.specs.declared.Reader.{Reader}
 use Rattle.token_record.specs.Record.{Call, Answer, token, none, truth, index, done, refused, Reply, reply}
@@ -12,8 +14,6 @@ use Rattle.fetching.specs.declared.Fetched.{Fetched}
 use Rattle.fetching.specs.declared.Fetched.the-variants.{Upto, Refused}
 use Rattle.fetching.specs.Fetching.{Outcome}
 use Rattle.window.specs.declared.Window.{Window}
-use Rattle.window.specs.declared.DoneAnswer.{DoneAnswer}
-use Rattle.window.specs.declared.DoneAnswer.the-variants as of-done
 use Rattle.window.specs.declared.DoneGiven.{DoneGiven}
 use Rattle.window.specs.declared.Reached.{Reached}
 use Rattle.window.specs.Window.{State, kept, sound, read-on, fetch, answered, done-reply}

@@ -1,14 +1,12 @@
 -- The tests of refusal 24 as facts, and back; one that fails is enough for the refusal.
 -- Assumes nothing.
-use Prim.Native.Nat.{ℕ, zero, suc, _≤_}
+use Prim.Native.Nat.{ℕ, _≤_}
 use mathlib.Core.Path.{_≡_, sym, _∙_}
-use mathlib.Core.Bool.{Bool, true, false, and-true}
-use mathlib.Core.List.{List, [], _∷_}
+use mathlib.Core.Bool.{true, false, and-true}
 use lib.ListN.{getD}
 use lib.Dec.{leb}
 use borrow.Author.Tests.{leb-true, le-leb, eqb-true, eq-eqb}
-use Rattle.patterns.specs.Bools.{by-test}
-use Rattle.patterns.specs.Lists.{each, each-right}
+use Rattle.patterns.specs.Lists.{each-right, each-fails}
 use Rattle.scanner.specs.Reading.{source-limit}
 use Rattle.token_room.specs.Room.{slots-in}
 use Rattle.bookmarks.specs.Bookmarks.{held}
@@ -25,11 +23,6 @@ pub record Fit (bytes len : ℕ) (w : Window) : Type 0 where
   pub room : kept w ≤ w .slots
   pub fetched-low : w .fetched .0 ≤ w .reader .place .0
   pub inside : w .reader .place .0 ≤ bytes
-
-one-fails : (bs : List Bool) (k : ℕ) → getD bs k true ≡ false → false ≡ each (λ b. b) bs
-one-fails [] k e = sym e
-one-fails (b ∷ bs) zero e = rw e
-one-fails (b ∷ bs) (suc k) e = by-test b (λ p. rw p (one-fails bs k e)) (λ p. rw p)
 
 module _ (bytes len : ℕ) (w : Window) where
   pub fit : sound bytes len w ≡ true → Fit bytes len w
@@ -50,7 +43,7 @@ module _ (bytes len : ℕ) (w : Window) where
   -- one test that fails
   pub unsound : (k : ℕ) → getD (tests bytes len w) k true ≡ false → false ≡ sound bytes len w
   unfolding sound
-  unsound k e = one-fails (tests bytes len w) k e
+  unsound k e = each-fails (tests bytes len w) k e
 
   -- the last one, where the others are met
   pub sound-last :

@@ -9,6 +9,8 @@ use Rattle.patterns.specs.Lists.{each}
 use Rattle.tokens.specs.declared.Mode.{Mode}
 use Rattle.tokens.specs.declared.Mode.the-variants.{Normal, HexPattern, HexJump}
 use Rattle.tokens.specs.declared.TokenIndex.{TokenIndex}
+use Rattle.refusals.specs.declared.DoneAnswer.{DoneAnswer}
+use Rattle.refusals.specs.declared.DoneAnswer.the-variants as of-done
 use Rattle.refusals.specs.Refusals.{number-of}
 use Rattle.scanner.specs.declared.Reader.{Reader}
 use Rattle.scanner.specs.Reading.{source-limit, entered, ahead}
@@ -27,8 +29,6 @@ use Rattle.window.specs.declared.MoreGiven.{MoreGiven}
 use Rattle.window.specs.declared.IndexAnswer.{IndexAnswer}
 use Rattle.window.specs.declared.IndexAnswer.the-variants as of-index
 use Rattle.window.specs.declared.IndexGiven.{IndexGiven}
-use Rattle.window.specs.declared.DoneAnswer.{DoneAnswer}
-use Rattle.window.specs.declared.DoneAnswer.the-variants as of-done
 use Rattle.window.specs.declared.DoneGiven.{DoneGiven}
 
 -- What a call is handed beside the source, and leaves: the window, and every lent number.

@@ -12,6 +12,7 @@ use borrow.Author.Tests.{le-leb, lt-leb, le-ltb, ltb-true, ltb-false, leb-true, 
 use Rattle.patterns.specs.Bools.{by-test}
 use Rattle.tokens.specs.declared.Mode.{Mode}
 use Rattle.tokens.specs.declared.TokenIndex.{TokenIndex}
+use Rattle.refusals.specs.declared.DoneAnswer.the-variants as of-done
 use Rattle.refusals.specs.declared.Refusal.{Refusal}
 use Rattle.refusals.specs.Refusals.{number-of}
 use Rattle.scanner.specs.declared.Reader.{Reader}
@@ -23,7 +24,6 @@ use Rattle.token_room.specs.Room.{write-all}
 use Rattle.fetching.specs.declared.Fetched.{Fetched}
 use Rattle.fetching.specs.Fetching.{outcome, fetched}
 use Rattle.bookmarks.specs.HeldLaws.{least-le}
-use Rattle.window.specs.declared.DoneAnswer.the-variants as of-done
 use Rattle.window.specs.declared.Reached.{Reached}
 use Rattle.window.specs.declared.Window.{Window}
 use Rattle.window.specs.Window.{State, state, marks, kept, sound, read-on, switched, fetch, with-window, answered, step, done-told, done-reply}

@@ -11,6 +11,7 @@ ghost use Rattle.window.specs.SoundLaws.{Fit};
 ghost use Rattle.window.specs.Reaching.{reached, still, reach, switch};
 use bookmarks::BOOKMARKS;
 use fetching::Fetched;
+use refusals::DoneAnswer;
 use refusals::Refusal;
 use scanner::Opened;
 use scanner::Reader;
@@ -48,12 +49,6 @@ pub enum MoreAnswer {
 // What the calls answer that give an index: bookmark, and the current index.
 pub enum IndexAnswer {
     Index(TokenIndex),
-    Refused(Refusal),
-}
-
-// What the calls answer that give nothing else: opening, restore, remove, and the switches.
-pub enum DoneAnswer {
-    Done,
     Refused(Refusal),
 }
 

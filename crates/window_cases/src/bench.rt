@@ -1,9 +1,8 @@
 // What the lines work on: a window, and how much is in use of the bytes and the numbers that are there.
-use crate::ask;
-use crate::ask::Ask;
 use crate::calls;
 use crate::forge;
 use crate::say;
+use lines::Asked;
 use window::Window;
 
 // The source is the bytes `from` up to, but without, `to`; the room is the first `numbers` of those to lend.
@@ -65,19 +64,19 @@ fn source_in_line(b: Bench, len: usize, end: usize) -> Bench {
 }
 
 // The source is bytes that no line has.
-fn source_afar(b: Bench, asked: Ask) -> Bench {
-    let from = FAR + ask::narrow(asked.first) as usize;
-    with_source(b, from, from + ask::narrow(asked.second) as usize)
+fn source_afar(b: Bench, asked: Asked) -> Bench {
+    let from = FAR + lines::narrow(asked.first) as usize;
+    with_source(b, from, from + lines::narrow(asked.second) as usize)
 }
 
 // A field of the window's record is set.
-fn forged(b: Bench, asked: Ask) -> Bench {
+fn forged(b: Bench, asked: Asked) -> Bench {
     let window = b.window;
     with_window(b, forge::set(window, asked))
 }
 
 // A call is made with what is in use.
-fn called(b: Bench, asked: Ask, text: &[u8], room: &mut [u32]) -> Bench {
+fn called(b: Bench, asked: Asked, text: &[u8], room: &mut [u32]) -> Bench {
     let from = b.from;
     let to = b.to;
     let numbers = b.numbers;
@@ -95,10 +94,10 @@ fn called(b: Bench, asked: Ask, text: &[u8], room: &mut [u32]) -> Bench {
 // Says a line, which ends at the place in the text; does what it asks for, by its first letter; and says the answer.
 pub(crate) fn step(b: Bench, line: &[u8], end: usize, text: &[u8], room: &mut [u32]) -> Bench {
     say::text(line);
-    let asked = ask::read(line);
+    let asked = lines::ask(line);
     let letter = asked.letter;
     match letter {
-        b'#' => b,
+        0 | b'#' => b,
         b's' => source_in_line(b, line.len(), end),
         b'f' => source_afar(b, asked),
         b'g' => with_room(b, asked.first, room),

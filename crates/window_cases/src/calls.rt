@@ -1,10 +1,9 @@
 // Each call of the window: made, its answer said, and the window after it handed on.
-use crate::ask;
-use crate::ask::Ask;
 use crate::same;
 use crate::say;
+use lines::Asked;
+use refusals::DoneAnswer;
 use tokens::TokenIndex;
-use window::DoneAnswer;
 use window::DoneGiven;
 use window::IndexAnswer;
 use window::IndexGiven;
@@ -84,8 +83,8 @@ fn has_more(w: Window, src: &[u8], room: &mut [u32]) -> Window {
 }
 
 // The calls that fetch nothing, by the line's first letter.
-fn moving(w: Window, asked: Ask, src: &[u8], room: &[u32]) -> Window {
-    let mark = TokenIndex(ask::narrow(asked.first));
+fn moving(w: Window, asked: Asked, src: &[u8], room: &[u32]) -> Window {
+    let mark = TokenIndex(lines::narrow(asked.first));
     let letter = asked.letter;
     match letter {
         b'b' => index_given(w, w.bookmark(src, room)),
@@ -98,7 +97,7 @@ fn moving(w: Window, asked: Ask, src: &[u8], room: &[u32]) -> Window {
 }
 
 // Makes the call that a line asks for, by its first letter.
-pub(crate) fn make(w: Window, asked: Ask, src: &[u8], room: &mut [u32]) -> Window {
+pub(crate) fn make(w: Window, asked: Asked, src: &[u8], room: &mut [u32]) -> Window {
     let letter = asked.letter;
     match letter {
         b'o' => open(src, room),

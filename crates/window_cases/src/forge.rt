@@ -1,6 +1,5 @@
 // The lines that set a field of the window's record.
-use crate::ask;
-use crate::ask::Ask;
+use lines::Asked;
 use scanner::Reader;
 use tokens::Offset;
 use tokens::TokenIndex;
@@ -45,11 +44,11 @@ fn counted(w: Window, letter: u8, n: u32) -> Window {
 }
 
 // The record with a field set, by the line's first letter.
-pub(crate) fn set(w: Window, asked: Ask) -> Window {
-    let n = ask::narrow(asked.first);
+pub(crate) fn set(w: Window, asked: Asked) -> Window {
+    let n = lines::narrow(asked.first);
     let letter = asked.letter;
     match letter {
-        b'M' => marked(w, n as usize, ask::narrow(asked.second)),
+        b'M' => marked(w, n as usize, lines::narrow(asked.second)),
         b'P' => placed(w, n),
         _ => counted(w, letter, n),
     }

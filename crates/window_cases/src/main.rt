@@ -9,7 +9,6 @@
 ghost use Prim.Native.Nat.{_≤_};
 ghost use lib.ListN.{length};
 
-mod ask;
 mod bench;
 mod calls;
 mod forge;
@@ -29,21 +28,6 @@ fn bytes() -> [u8; 85541] {
     all
 }
 
-// Where the line that starts at the place ends: at its LF, or with the text.
-fn line_end(text: &[u8], from: usize) -> usize
-    requires { ⌜ from ≤ length (now text) ⌝ }
-    ensures { λ r. ⌜ (from ≤ r) × (r ≤ length (now (text .entry))) ⌝ }
-{
-    let mut at = from;
-    while at < text.len() {
-        if text[at] == b'\n' {
-            return at;
-        }
-        at += 1;
-    }
-    at
-}
-
 // Runs each line of the cases, which are the first n bytes of the text.
 fn run(text: &[u8], n: usize, room: &mut [u32])
     requires { ⌜ n ≤ length (now text) ⌝ }
@@ -51,7 +35,7 @@ fn run(text: &[u8], n: usize, room: &mut [u32])
     let mut on = bench::new();
     let mut at = 0;
     while at < n {
-        let end = line_end(text, at);
+        let end = lines::line_end(text, at);
         on = bench::step(on, &text[at..end], end, text, room);
         say::text(b"\n");
         at = end + 1;

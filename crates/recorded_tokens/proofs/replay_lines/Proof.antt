@@ -5,6 +5,8 @@ use borrow.Author.Needs.{needs}
 use lib.ListN.{length}
 use mathlib.Core.Logic.{⊎-elim}
 use native.Mathlib.Omega.{arith}
+use Rattle.lines.specs.Lines.{lf}
+use Rattle.lines.specs.LineLaws.{next-within}
 use Rattle.recorded_tokens.proofs.replay_lines.Statement.{statement}
 use Rattle.recorded_tokens.proofs.replay_lines.Tie as tie
 
@@ -13,6 +15,10 @@ Inv-loop text lines₀ differ₀ at₀ lines differ at = (lines ≤ at) × (diff
 
 abbrev μ-loop : tie.MeasureT-loop
 μ-loop text lines₀ differ₀ at₀ lines differ at = length text - at
+
+-- a line that starts within the text ends within it
+end-within : (c : tie.After-line-end Inv-loop μ-loop) → c .line-end .result ≤ length (c .before .before .before .before .args .text .now)
+end-within c = next-within _ _ lf (c .line-end .ensures) (omega arith)
 
 loop-holds : tie.Need-loop-holds Inv-loop μ-loop
 loop-holds c = search needs
@@ -30,7 +36,7 @@ part-is-right-start : tie.Need-part-is-right-start Inv-loop μ-loop
 part-is-right-start c = search needs
 
 part-is-right-end : tie.Need-part-is-right-end Inv-loop μ-loop
-part-is-right-end c = search needs
+part-is-right-end c = omega (arith, end-within (c .before))
 
 is-right-requires : tie.Need-is-right-requires Inv-loop μ-loop
 is-right-requires c κs = search needs
@@ -42,13 +48,13 @@ add-differ : tie.Need-add-differ Inv-loop μ-loop
 add-differ c = search needs
 
 add-at : tie.Need-add-at Inv-loop μ-loop
-add-at c = search needs
+add-at c = omega (arith, end-within (c .before))
 
 loop-less : tie.Need-loop-less Inv-loop μ-loop
 loop-less c = search needs
 
 loop-again : tie.Need-loop-again Inv-loop μ-loop
-loop-again c = ⊎-elim (λ w. omega arith) (λ w. omega arith) (c .if1 .came)
+loop-again c = let h = end-within (c .before) in ⊎-elim (λ w. omega (arith, h)) (λ w. omega (arith, h)) (c .if1 .came)
 
 returns : tie.Need-returns Inv-loop μ-loop
 returns c = search needs

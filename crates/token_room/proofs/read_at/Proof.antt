@@ -5,9 +5,6 @@ use Rattle.token_room.specs.RoomLaws.{loaded}
 use Rattle.token_room.proofs.read_at.Statement.{statement}
 use Rattle.token_room.proofs.read_at.Tie as tie
 
-cast-k : tie.Need-cast-k
-cast-k c = search needs
-
 mul-k : tie.Need-mul-k
 mul-k c = search needs
 
@@ -42,7 +39,6 @@ pub read-at-spec : {M : Type 1} → statement M
 read-at-spec =
     tie.close
     (tie.spec
-    cast-k
     mul-k
     mul-t4
     shared-slice-read-t6

@@ -7,9 +7,6 @@ use Rattle.token_room.specs.RoomLaws.{stored}
 use Rattle.token_room.proofs.write_at.Statement.{statement}
 use Rattle.token_room.proofs.write_at.Tie as tie
 
-cast-k : tie.Need-cast-k
-cast-k c = search needs
-
 mul-k : tie.Need-mul-k
 mul-k c = search needs
 
@@ -47,7 +44,6 @@ pub write-at-spec : {M : Type 1} → statement M
 write-at-spec =
     tie.close
     (tie.spec
-    cast-k
     mul-k
     mul-room
     slice-write-room

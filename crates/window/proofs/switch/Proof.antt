@@ -2,8 +2,8 @@
 -- Assumes nothing.
 use mathlib.Core.Path.{sym, ap, _∙_}
 use borrow.Author.Needs.{needs}
+use Rattle.refusals.specs.declared.DoneAnswer.the-variants.{Done}
 use Rattle.window.specs.declared.Window.{Window}
-use Rattle.window.specs.declared.DoneAnswer.the-variants.{Done}
 use Rattle.window.proofs.switch.Statement.{statement}
 use Rattle.window.proofs.switch.Tie as tie
 

@@ -1,9 +1,12 @@
 -- `run` is safe and ends: the cases are within the text, the room keeps its length, and each line takes at least its LF.
 -- The measure is what is left of the cases. Assumes nothing.
-use Prim.Native.Nat.{_-_}
+use Prim.Native.Nat.{_-_, _≤_}
 use borrow.Author.Needs.{needs}
+use native.Mathlib.Omega.{arith}
 use lib.ListN.{length}
 use mathlib.Core.Path.{_≡_}
+use Rattle.lines.specs.Lines.{lf}
+use Rattle.lines.specs.LineLaws.{next-within}
 use Rattle.window_cases.proofs.run.Statement.{statement}
 use Rattle.window_cases.proofs.run.Tie as tie
 
@@ -12,6 +15,10 @@ Inv-loop text n room₀ on₀ at₀ _ room on at = length room ≡ length room�
 
 abbrev μ-loop : tie.MeasureT-loop
 μ-loop text n room₀ on₀ at₀ _ room on at = n - at
+
+-- a line that starts within the text ends within it
+end-within : (c : tie.After-line-end Inv-loop μ-loop) → c .line-end .result ≤ length (c .before .before .before .before .before .before .args .text .now)
+end-within c = next-within _ _ lf (c .line-end .ensures) (omega arith)
 
 new-requires : tie.Need-new-requires Inv-loop μ-loop
 new-requires c κs = search needs
@@ -29,7 +36,7 @@ part-step-start : tie.Need-part-step-start Inv-loop μ-loop
 part-step-start c = search needs
 
 part-step-end : tie.Need-part-step-end Inv-loop μ-loop
-part-step-end c = search needs
+part-step-end c = omega (arith, end-within c)
 
 step-requires : tie.Need-step-requires Inv-loop μ-loop
 step-requires c κs = search needs
@@ -41,7 +48,7 @@ text-requires : tie.Need-text-requires Inv-loop μ-loop
 text-requires c κs = search needs
 
 add-at : tie.Need-add-at Inv-loop μ-loop
-add-at c = search needs
+add-at c = omega (arith, end-within (c .before .before .before .before .before .before .before))
 
 loop-less : tie.Need-loop-less Inv-loop μ-loop
 loop-less c = search needs

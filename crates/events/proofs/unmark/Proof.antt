@@ -1,0 +1,44 @@
+-- The tests are the grounds', in their order.
+-- Assumes nothing.
+use borrow.Author.Needs.{needs}
+use native.Mathlib.Omega.{arith}
+use Rattle.events.specs.AnswerLaws.{none-to-remove, removed-past-end, mark-removed}
+use Rattle.events.proofs.unmark.Statement.{statement}
+use Rattle.events.proofs.unmark.Tie as tie
+
+refused-requires : tie.Need-refused-requires
+refused-requires c κs = search needs
+
+returns : tie.Need-returns
+returns c = rw (c .refused .ensures) (none-to-remove _ (search needs) _ (omega arith))
+
+refused-requires-2 : tie.Need-refused-requires-2
+refused-requires-2 c κs = search needs
+
+returns-2 : tie.Need-returns-2
+returns-2 c =
+    let s = c .before .before .before .before .before .before .before in
+    rw (c .refused2 .ensures) (removed-past-end _ (s .pre) _ (omega arith) (omega arith))
+
+sub-marked : tie.Need-sub-marked
+sub-marked c = search needs
+
+marked-requires : tie.Need-marked-requires
+marked-requires c κs = search needs
+
+returns-3 : tie.Need-returns-3
+returns-3 c =
+    let s = c .before .before .before .before .before .before .before in
+    rw (c .marked .ensures) (mark-removed _ (s .pre) _ (omega arith) (omega arith))
+
+pub unmark-spec : {M : Type 1} → statement M
+unmark-spec =
+    tie.close
+    (tie.spec
+    refused-requires
+    returns
+    refused-requires-2
+    returns-2
+    sub-marked
+    marked-requires
+    returns-3)

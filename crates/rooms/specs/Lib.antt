@@ -1,0 +1,2 @@
+-- Laws of numbers that are stored in lent room.
+pub mod Stores
