@@ -3,7 +3,7 @@
 use Prim.Native.Nat.{ℕ}
 use mathlib.Core.Path.{_≡_, refl}
 use mathlib.Core.Bool.{true, false}
-use mathlib.Core.List.{List, [], _∷_, _++_}
+use mathlib.Core.List.{List, [], _∷_}
 use Rattle.refusals.specs.Calls.{run, after-all}
 use Rattle.event_record.specs.declared.Event.{Event}
 use Rattle.event_record.specs.Record.{Call, push-token, push-error, begin, end, end-with-error, bookmark, pop, truncate, remove-bookmark, Answer, done, none, position, refused, Record, opened, holding, marked, span, event-of, at, answered}

@@ -18,7 +18,8 @@ use Rattle.event_record.specs.Unclosed.{nested, BeginAt}
 use Rattle.event_room.specs.Room.{slots-in, listed}
 use Rattle.event_room.specs.RoomLaws.{length-written}
 use Rattle.event_room.specs.RingLaws.{length-listed, listed-get}
-use Rattle.events.specs.Stream.{State, state, fresh, view, laid, inner-place, event-at, answered, step}
+use Rattle.events.specs.Stream.{State, state, fresh, view, laid, inner-place, answered, step}
+use Rattle.events.specs.Parts.{event-at}
 use Rattle.events.specs.SoundLaws.{Fit, fit-sound, answered-now}
 use Rattle.event_view.specs.CallLaws.{both-ways, either-way, always}
 use Rattle.event_view.specs.Nesting.{Sized, Nested, inner-begins, taken-sized, taken-nested}

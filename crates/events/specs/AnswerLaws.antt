@@ -3,6 +3,7 @@
 use Prim.Native.Nat.{ℕ, _+_, _-_, _≤_, _<_}
 use mathlib.Core.Path.{_≡_, refl, sym, ap, _∙_}
 use mathlib.Core.Bool.{Bool, true, false, _||_}
+use mathlib.Core.List.{List, [], _∷_}
 use native.Mathlib.Omega.{arith}
 use lib.ListN.{length, drop}
 use lib.Dec.{eqb, leb}
@@ -10,11 +11,12 @@ use borrow.Author.Tests.{lt-ltb, le-ltb, le-leb, lt-leb, eq-eqb, ne-eqb}
 use Rattle.event_record.specs.declared.Span.{Span}
 use Rattle.event_record.specs.declared.Event.{Event}
 use Rattle.event_record.specs.declared.Position.{Position}
-use Rattle.event_record.specs.Record.{push-token, push-error, begin, end, end-with-error, bookmark, truncate, remove-bookmark, pop}
+use Rattle.event_record.specs.Record.{Call, push-token, push-error, begin, end, end-with-error, bookmark, truncate, remove-bookmark, pop}
 use Rattle.event_record.specs.Record.{done, none, position, event, refused, Reply, reply, event-of, at, token-tag, error-tag, error-kind}
-use Rattle.event_record.specs.Record.{bookmark-limit, balanced, inner, ended, marked, spare, no-span, none-live, past-end}
+use Rattle.event_record.specs.Record.{bookmark-limit, balanced, inner, ended, marked, spare, no-span, none-live, past-end, grounds}
 use Rattle.event_room.specs.Room.{listed}
-use Rattle.events.specs.Stream.{State, view, laid, sound, answered, step, inner-place, event-at, pushes}
+use Rattle.events.specs.Stream.{State, view, laid, sound, answered, step, inner-place}
+use Rattle.events.specs.Parts.{event-at, pushes}
 use Rattle.events.specs.SoundLaws.{Fit, passed-on}
 use Rattle.events.specs.HoldLaws.{marks-left, push-left, begin-left, end-left, drop-left, cut-left, first-of, pop-left}
 use Rattle.events.specs.HoldLaws.{view-count, view-opened, view-inner, view-inner-event}
@@ -76,13 +78,10 @@ module _ (s : State) (k : Fit s) where
   some-open : 0 < s .stream .opened → eqb (length (view s .opens)) 0 ≡ false
   some-open o = ne-eqb (length (view s .opens)) 0 (λ z. omega (arith, z, view-opened s k))
 
-  pub nothing-to-end : s .stream .opened ≡ 0 → reply (refused 6) s ≡ answered end s
+  pub nothing-open : (c : Call) → grounds c (view s) ≡ (eqb (length (view s .opens)) 0, 6) ∷ [] → s .stream .opened ≡ 0
+      → reply (refused 6) s ≡ answered c s
   unfolding answered
-  nothing-to-end e = rw (view-opened s k, eq-eqb _ _ e)
-
-  pub nothing-to-fail : s .stream .opened ≡ 0 → reply (refused 6) s ≡ answered end-with-error s
-  unfolding answered
-  nothing-to-fail e = rw (view-opened s k, eq-eqb _ _ e)
+  nothing-open c g e = rw (g, view-opened s k, eq-eqb _ _ e)
 
   pub node-ended : 0 < s .stream .opened → reply done (end-left (event-at (s .stream) (s .room) (inner-place s) .kind) s) ≡ answered end s
   unfolding answered
@@ -130,23 +129,16 @@ module _ (s : State) (k : Fit s) where
   not-past : (p : Position) → p .0 ≤ s .stream .count → past-end p (view s) ≡ false
   not-past p h = le-ltb (length (view s .events)) (p .0) (omega (arith, view-count s k))
 
+  module _ (c : Call) (p : Position) {gs : List (Bool × ℕ)} (g : grounds c (view s) ≡ (none-live (view s), 4) ∷ (past-end p (view s), 10) ∷ gs) where
+    pub nothing-live : s .stream .bookmarks ≡ 0 → reply (refused 4) s ≡ answered c s
+    unfolding answered
+    nothing-live e = rw (g, eq-eqb _ _ e)
+
+    pub too-late : 0 < s .stream .bookmarks → s .stream .count < p .0 → reply (refused 10) s ≡ answered c s
+    unfolding answered
+    too-late b h = rw (g, some-live b, past p h)
+
   module _ (p : Position) where
-    pub none-to-cut : s .stream .bookmarks ≡ 0 → reply (refused 4) s ≡ answered (truncate p) s
-    unfolding answered
-    none-to-cut e = rw (eq-eqb _ _ e)
-
-    pub none-to-remove : s .stream .bookmarks ≡ 0 → reply (refused 4) s ≡ answered (remove-bookmark p) s
-    unfolding answered
-    none-to-remove e = rw (eq-eqb _ _ e)
-
-    pub cut-past-end : 0 < s .stream .bookmarks → s .stream .count < p .0 → reply (refused 10) s ≡ answered (truncate p) s
-    unfolding answered
-    cut-past-end b h = rw (some-live b, past p h)
-
-    pub removed-past-end : 0 < s .stream .bookmarks → s .stream .count < p .0 → reply (refused 10) s ≡ answered (remove-bookmark p) s
-    unfolding answered
-    removed-past-end b h = rw (some-live b, past p h)
-
     pub mark-removed : 0 < s .stream .bookmarks → p .0 ≤ s .stream .count
         → reply done (marks-left (s .stream .bookmarks - 1) s) ≡ answered (remove-bookmark p) s
     unfolding answered

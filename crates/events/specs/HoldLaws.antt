@@ -18,7 +18,7 @@ use Rattle.event_room.specs.RoomLaws.{length-write}
 use Rattle.event_room.specs.RingLaws.{slot-first, length-listed, listed-take, listed-get, listed-turned, written-append, written-listed, written-set}
 use Rattle.events.specs.declared.Stream.{Stream}
 use Rattle.events.specs.Stream.{State, state, view, front-after, laid, inner-place}
-use Rattle.events.specs.Stream.{counting, marking, passing, slot-at, event-at, opening, closing, gone-after}
+use Rattle.events.specs.Parts.{counting, marking, passing, slot-at, event-at, opening, closing, gone-after}
 use Rattle.events.specs.SoundLaws.{Fit}
 
 -- What the code leaves: so many bookmarks; an event more; a node opened, closed, or dropped; the first events; all but the first.

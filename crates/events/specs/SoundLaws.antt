@@ -12,7 +12,8 @@ use Rattle.patterns.specs.Lists.{each-right}
 use Rattle.event_record.specs.Record.{Call, refused, Reply, reply, begin-tag}
 use Rattle.event_room.specs.Room.{slots-in}
 use Rattle.events.specs.declared.Stream.{Stream}
-use Rattle.events.specs.Stream.{State, inner-place, begins, event-at, tests, sound, answered, step}
+use Rattle.events.specs.Stream.{State, inner-place, begins, tests, sound, answered, step}
+use Rattle.events.specs.Parts.{event-at}
 
 -- what holds of a stream and its rooms that a later call takes
 pub record Fit (s : State) : Type 0 where

@@ -1,4 +1,4 @@
--- A line's end lies between its start and the text's end; what is behind a space, by places; and a number, digit by digit.
+-- A line's end lies within the text; what is behind a space, by places; and a number, digit by digit.
 -- By the laws of runs, and one look at the front of the rest. Assumes nothing.
 use Prim.Native.Nat.{ℕ, suc, _+_, _≤_, _<_}
 use mathlib.Core.Path.{_≡_, refl, ap, sym, _∙_}
@@ -11,18 +11,15 @@ use lib.Seq.{drop-cons, drop-drop}
 use lib.Dec.{leb}
 use borrow.Author.Tests.{leb-true}
 use Rattle.patterns.specs.Bools.{and-first, and-second}
-use Rattle.patterns.specs.Walk.{span, span-within}
+use Rattle.patterns.specs.Walk.{span, span-within, prefix, prefix-done, prefix-short, prefix-no, prefix-yes}
 use Rattle.tokens.specs.Tokens.{dec}
 use Rattle.lines.specs.declared.Asked.{Asked}
-use Rattle.lines.specs.Lines.{space, other-than, next-byte, line-end, behind-space, grown, number, asked}
+use Rattle.lines.specs.declared.Upto.the-variants.{Place, Nowhere}
+use Rattle.lines.specs.Lines.{space, other-than, next-byte, behind-space, grown, number, asked, after-bytes}
 
 -- for any r that is the next byte's place
-module _ (text : List ℕ) (from b : ℕ) {r : ℕ} (e : r ≡ next-byte text from b) where
-  pub next-after : from ≤ r
-  next-after = omega (arith, e)
-
-  pub next-within : from ≤ length text → r ≤ length text
-  next-within h = span-within (other-than b) text from e h
+pub next-within : (text : List ℕ) (from b : ℕ) {r : ℕ} → r ≡ next-byte text from b → from ≤ length text → r ≤ length text
+next-within text from b e h = span-within (other-than b) text from e h
 
 -- what is behind a space that is at a place, or behind the end
 module _ (line : List ℕ) (from : ℕ) {at : ℕ} (e : at ≡ next-byte line from space) where
@@ -73,3 +70,33 @@ pub asked-by : (line : List ℕ) {l x y z : ℕ} {p q r : List ℕ} → p ≡ be
     → _≡_ {A = Asked} (record { letter = l; first = x; second = y; third = z }) (asked line)
 unfolding asked
 asked-by line e f g el ex ey ez = rw (el, ex, ey, ez, g, f, e)
+
+-- A comparison: the first i bytes stand at the place, and the rests decide.
+pub record Compared (bytes text : List ℕ) (at i here : ℕ) : Type 0 where
+  pub rest : prefix bytes (drop at text) ≡ prefix (drop i bytes) (drop here text)
+  pub placed : here ≡ at + i
+  pub within : i ≤ length bytes
+
+pub compared-start : (bytes text : List ℕ) (at : ℕ) → Compared bytes text at 0 at
+compared-start bytes text at = record { rest = refl; placed = omega arith; within = omega arith }
+
+module _ {bytes text : List ℕ} {at i here : ℕ} (d : Compared bytes text at i here) where
+  nowhere : false ≡ prefix (drop i bytes) (drop here text) → Nowhere ≡ after-bytes text at bytes
+  unfolding after-bytes
+  nowhere e = rw (d .rest ∙ sym e)
+
+  pub compared-over : i < length bytes → length text ≤ here → Nowhere ≡ after-bytes text at bytes
+  compared-over h l = nowhere (prefix-short bytes i text here h l)
+
+  pub compared-no : i < length bytes → here < length text → (getD text here 0 ≡ getD bytes i 0 → ⊥) → Nowhere ≡ after-bytes text at bytes
+  compared-no h l e = nowhere (prefix-no bytes i text here h l e)
+
+  pub compared-yes : i < length bytes → here < length text → getD text here 0 ≡ getD bytes i 0 → Compared bytes text at (i + 1) (here + 1)
+  compared-yes h l e =
+      record { rest = d .rest ∙ prefix-yes bytes i text here h l e; placed = omega (arith, d .placed); within = omega arith }
+
+  pub compared-done : length bytes ≤ i → Place here ≡ after-bytes text at bytes
+  unfolding after-bytes
+  compared-done h =
+      let e : here ≡ at + length bytes = omega (arith, d .placed, d .within) in
+      rw (d .rest ∙ sym (prefix-done bytes i text here h)) (ap Place e)

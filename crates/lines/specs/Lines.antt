@@ -3,11 +3,13 @@
 use Prim.Native.Nat.{ℕ, min, suc, _+_, _-_, _*_}
 use mathlib.Core.Bool.{Bool, cond, not}
 use mathlib.Core.List.{List, [], _∷_}
-use lib.ListN.{getD, drop}
+use lib.ListN.{length, getD, drop}
 use lib.Dec.{eqb}
-use Rattle.patterns.specs.Walk.{span}
+use Rattle.patterns.specs.Walk.{span, prefix}
 use Rattle.tokens.specs.Tokens.{dec}
 use Rattle.lines.specs.declared.Asked.{Asked}
+use Rattle.lines.specs.declared.Upto.{Upto}
+use Rattle.lines.specs.declared.Upto.the-variants.{Place, Nowhere}
 
 abbrev pub lf : ℕ
 lf = 10
@@ -49,3 +51,8 @@ asked xs =
     let a = behind-space xs in
     let b = behind-space a in
     record { letter = getD xs 0 0; first = number 0 a; second = number 0 b; third = number 0 (behind-space b) }
+
+-- The place behind some bytes, where the text has them at a place.
+unfoldable pub after-bytes : List ℕ → ℕ → List ℕ → Upto
+unfolding prefix
+after-bytes text at bytes = cond (prefix bytes (drop at text)) (Place (at + length bytes)) Nowhere

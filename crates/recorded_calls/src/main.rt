@@ -4,22 +4,10 @@
 // driver that recorded them. Each is replayed with ample room, where every answer must be the Rust's; and with 0 to 8 slots, where every
 // answer must be up to the first refusal 2. A line that is no record counts as one that differs.
 ghost use Prim.Native.Nat.{_≤_};
-ghost use lib.ListN.{length};
 use libc::STDERR_FILENO;
 use libc::STDIN_FILENO;
 use libc::STDOUT_FILENO;
-
-// Where a record has been read up to; or nowhere, where it has something else.
-enum Upto {
-    Place(usize),
-    Nowhere,
-}
-
-// A byte in hexadecimal, and the place after it.
-enum Pair {
-    Byte(u8, usize),
-    Missing,
-}
+use lines::Upto;
 
 // A call by its number and its argument, and the place of its answer.
 enum Asked {
@@ -30,12 +18,6 @@ enum Asked {
 // A number in decimal, and the place after it.
 struct Number {
     value: u32,
-    end: usize,
-}
-
-// A source that was decoded: its length, and where its digits end in the record.
-struct Source {
-    len: usize,
     end: usize,
 }
 
@@ -90,35 +72,17 @@ fn at_end() -> bool {
     libc::read(STDIN_FILENO, &mut next) == 0
 }
 
-// The place after these bytes, where the record has them.
-fn after_bytes(record: &[u8], at: usize, bytes: &[u8]) -> Upto {
-    if record.len() < at {
-        return Upto::Nowhere;
-    }
-    if record.len() - at < bytes.len() {
-        return Upto::Nowhere;
-    }
-    let mut i = 0;
-    while i < bytes.len() {
-        if record[at + i] != bytes[i] {
-            return Upto::Nowhere;
-        }
-        i += 1;
-    }
-    Upto::Place(at + i)
-}
-
 // The place after the number in decimal, where the record has it.
 fn after_number(record: &[u8], at: usize, n: u32) -> Upto {
     let mut digits = [0u8; 20];
     let k = io::decimal(n as u64, &mut digits);
-    after_bytes(record, at, &digits[..k])
+    lines::after_bytes(record, at, &digits[..k])
 }
 
 // The place after the number and a space.
 fn after_field(record: &[u8], at: usize, n: u32) -> Upto {
     match after_number(record, at, n) {
-        Upto::Place(next) => after_bytes(record, next, b" "),
+        Upto::Place(next) => lines::after_bytes(record, next, b" "),
         Upto::Nowhere => Upto::Nowhere,
     }
 }
@@ -139,7 +103,7 @@ fn after_index(record: &[u8], at: usize, op: u32, index: u32) -> Upto {
     if op != 3 {
         return after_number(record, at, index);
     }
-    match after_bytes(record, at, b"bookmark ") {
+    match lines::after_bytes(record, at, b"bookmark ") {
         Upto::Place(next) => after_number(record, next, index),
         Upto::Nowhere => Upto::Nowhere,
     }
@@ -148,20 +112,20 @@ fn after_index(record: &[u8], at: usize, op: u32, index: u32) -> Upto {
 // The place after true or false.
 fn after_truth(record: &[u8], at: usize, truth: u32) -> Upto {
     if truth == 1 {
-        after_bytes(record, at, b"true")
+        lines::after_bytes(record, at, b"true")
     } else {
-        after_bytes(record, at, b"false")
+        lines::after_bytes(record, at, b"false")
     }
 }
 
 // The place after the words of an answer of four numbers, where the record has them. The Rust refuses nothing.
 fn after_answer(record: &[u8], at: usize, op: u32, tag: u32, a: u32, b: u32, c: u32) -> Upto {
     match tag {
-        0 => after_bytes(record, at, b"none"),
+        0 => lines::after_bytes(record, at, b"none"),
         1 => after_token(record, at, a, b, c),
         2 => after_truth(record, at, a),
         3 => after_index(record, at, op, a),
-        4 => after_bytes(record, at, b"ok"),
+        4 => lines::after_bytes(record, at, b"ok"),
         _ => Upto::Nowhere,
     }
 }
@@ -304,51 +268,6 @@ fn answered(
     Outcome { calls, small, same }
 }
 
-// The value of a hexadecimal digit; 16 for any other byte.
-fn hex_value(b: u8) -> u8 {
-    if b'0' <= b && b <= b'9' {
-        b - b'0'
-    } else if b'a' <= b && b <= b'f' {
-        b - b'a' + 10
-    } else {
-        16
-    }
-}
-
-// The byte that two hexadecimal digits at the place spell, and the place after them.
-fn byte_at(record: &[u8], at: usize) -> Pair {
-    if record.len() < 2 {
-        return Pair::Missing;
-    }
-    if record.len() - 2 < at {
-        return Pair::Missing;
-    }
-    let high = hex_value(record[at]);
-    let low = hex_value(record[at + 1]);
-    if high > 15 {
-        return Pair::Missing;
-    }
-    if low > 15 {
-        return Pair::Missing;
-    }
-    Pair::Byte(high * 16 + low, at + 2)
-}
-
-// Decodes the hexadecimal digits at the place: as many pairs as there are, and as there is room for.
-fn decode(record: &[u8], from: usize, src: &mut [u8]) -> Source {
-    let mut len = 0;
-    let mut at = from;
-    while len < src.len() {
-        let Pair::Byte(b, next) = byte_at(record, at) else {
-            return Source { len, end: at };
-        };
-        src[len] = b;
-        len += 1;
-        at = next;
-    }
-    Source { len, end: at }
-}
-
 // The number in decimal at the place, of up to nine digits; 0 where there is none.
 fn number_at(record: &[u8], from: usize) -> Number {
     let mut value: u32 = 0;
@@ -381,7 +300,7 @@ fn digit_value(b: u8) -> u32 {
 // A call with an argument, which stands at the place.
 fn with_argument(record: &[u8], at: usize, op: u32) -> Asked {
     let argument = number_at(record, at);
-    match after_bytes(record, argument.end, b"=") {
+    match lines::after_bytes(record, argument.end, b"=") {
         Upto::Place(next) => Asked::Call(op, argument.value, next),
         Upto::Nowhere => Asked::Nothing,
     }
@@ -389,49 +308,34 @@ fn with_argument(record: &[u8], at: usize, op: u32) -> Asked {
 
 // The call at the place.
 fn call_at(record: &[u8], at: usize) -> Asked {
-    if let Upto::Place(next) = after_bytes(record, at, b";next=") {
+    if let Upto::Place(next) = lines::after_bytes(record, at, b";next=") {
         return Asked::Call(0, 0, next);
     }
-    if let Upto::Place(next) = after_bytes(record, at, b";peek ") {
+    if let Upto::Place(next) = lines::after_bytes(record, at, b";peek ") {
         return with_argument(record, next, 1);
     }
-    if let Upto::Place(next) = after_bytes(record, at, b";has_more=") {
+    if let Upto::Place(next) = lines::after_bytes(record, at, b";has_more=") {
         return Asked::Call(2, 0, next);
     }
-    if let Upto::Place(next) = after_bytes(record, at, b";bookmark=") {
+    if let Upto::Place(next) = lines::after_bytes(record, at, b";bookmark=") {
         return Asked::Call(3, 0, next);
     }
-    if let Upto::Place(next) = after_bytes(record, at, b";restore ") {
+    if let Upto::Place(next) = lines::after_bytes(record, at, b";restore ") {
         return with_argument(record, next, 4);
     }
-    if let Upto::Place(next) = after_bytes(record, at, b";remove ") {
+    if let Upto::Place(next) = lines::after_bytes(record, at, b";remove ") {
         return with_argument(record, next, 5);
     }
-    if let Upto::Place(next) = after_bytes(record, at, b";pattern=") {
+    if let Upto::Place(next) = lines::after_bytes(record, at, b";pattern=") {
         return Asked::Call(6, 0, next);
     }
-    if let Upto::Place(next) = after_bytes(record, at, b";jump=") {
+    if let Upto::Place(next) = lines::after_bytes(record, at, b";jump=") {
         return Asked::Call(7, 0, next);
     }
-    if let Upto::Place(next) = after_bytes(record, at, b";index=") {
+    if let Upto::Place(next) = lines::after_bytes(record, at, b";index=") {
         return Asked::Call(8, 0, next);
     }
     Asked::Nothing
-}
-
-// Where the text has the byte next, from a place on; or its end.
-fn next_byte(text: &[u8], from: usize, b: u8) -> usize
-    requires { ⌜ from ≤ length (now text) ⌝ }
-    ensures { λ r. ⌜ (from ≤ r) × (r ≤ length (now (text .entry))) ⌝ }
-{
-    let mut at = from;
-    while at < text.len() {
-        if text[at] == b {
-            return at;
-        }
-        at += 1;
-    }
-    at
 }
 
 // Reads the calls at the place, as many as there is room for.
@@ -454,7 +358,7 @@ fn read_calls(
         script[count * 2 + 1] = arg;
         places[count] = answer_at;
         count += 1;
-        at = next_call(record, answer_at);
+        at = lines::next_byte(record, answer_at, b';');
     }
     Calls {
         count,
@@ -462,19 +366,10 @@ fn read_calls(
     }
 }
 
-// Where the next call begins, or the record ends.
-fn next_call(record: &[u8], from: usize) -> usize {
-    if from <= record.len() {
-        next_byte(record, from, b';')
-    } else {
-        from
-    }
-}
-
 // Replays a record.
 fn sequence(record: &[u8]) -> Outcome {
     let mut src = io::buffer();
-    let source = decode(record, 0, &mut src);
+    let source = lines::decode(record, 0, &mut src);
     let len = source.len;
     let mut script = script_room();
     let mut places = places_room();
@@ -504,7 +399,7 @@ fn replay_lines(text: &[u8]) -> Tally {
     let mut differ = 0;
     let mut at = 0;
     while at < text.len() {
-        let end = next_byte(text, at, b'\n');
+        let end = lines::line_end(text, at);
         lines += 1;
         let one = sequence(&text[at..end]);
         calls = std::num::wrapping_add_usize(calls, one.calls);

@@ -6,6 +6,7 @@
 use libc::STDERR_FILENO;
 use libc::STDIN_FILENO;
 use libc::STDOUT_FILENO;
+use lines::Upto;
 use scanner::Opened;
 use scanner::Reader;
 use scanner::Scan;
@@ -13,28 +14,10 @@ use tokens::INVALID_UTF8;
 use tokens::Mode;
 use tokens::Token;
 
-// Where a record has been read up to; or nowhere, once it differs.
-enum Upto {
-    Place(usize),
-    Nowhere,
-}
-
 // A step through a record: the reader and the place to go on at; or the end, and whether all was the same.
 enum Step {
     On(Reader, usize),
     Over(bool),
-}
-
-// A byte in hexadecimal, and the place after it.
-enum Pair {
-    Byte(u8, usize),
-    Missing,
-}
-
-// A source that was decoded: its length, and where its digits end in the record.
-struct Source {
-    len: usize,
-    end: usize,
 }
 
 // How many records were replayed, and how many of them differ.
@@ -54,34 +37,16 @@ fn at_end() -> bool {
     libc::read(STDIN_FILENO, &mut next) == 0
 }
 
-// The place after these bytes, where the record has them.
-fn after_bytes(record: &[u8], at: usize, bytes: &[u8]) -> Upto {
-    if record.len() < at {
-        return Upto::Nowhere;
-    }
-    if record.len() - at < bytes.len() {
-        return Upto::Nowhere;
-    }
-    let mut i = 0;
-    while i < bytes.len() {
-        if record[at + i] != bytes[i] {
-            return Upto::Nowhere;
-        }
-        i += 1;
-    }
-    Upto::Place(at + i)
-}
-
 // The place after the number in decimal, where the record has it.
 fn after_number(record: &[u8], at: usize, n: u32) -> Upto {
     let mut digits = [0u8; 20];
     let k = io::decimal(n as u64, &mut digits);
-    after_bytes(record, at, &digits[..k])
+    lines::after_bytes(record, at, &digits[..k])
 }
 
 // The place after the mark and the number, where the record has them.
 fn after_field(record: &[u8], at: usize, mark: u8, n: u32) -> Upto {
-    match after_bytes(record, at, &[mark]) {
+    match lines::after_bytes(record, at, &[mark]) {
         Upto::Place(next) => after_number(record, next, n),
         Upto::Nowhere => Upto::Nowhere,
     }
@@ -147,51 +112,6 @@ fn is_same(record: &[u8], from: usize, src: &[u8], opened: Reader) -> bool {
     false
 }
 
-// The value of a hexadecimal digit; 16 for any other byte.
-fn hex_value(b: u8) -> u8 {
-    if b'0' <= b && b <= b'9' {
-        b - b'0'
-    } else if b'a' <= b && b <= b'f' {
-        b - b'a' + 10
-    } else {
-        16
-    }
-}
-
-// The byte that two hexadecimal digits at the place spell, and the place after them.
-fn byte_at(record: &[u8], at: usize) -> Pair {
-    if record.len() < 2 {
-        return Pair::Missing;
-    }
-    if record.len() - 2 < at {
-        return Pair::Missing;
-    }
-    let high = hex_value(record[at]);
-    let low = hex_value(record[at + 1]);
-    if high > 15 {
-        return Pair::Missing;
-    }
-    if low > 15 {
-        return Pair::Missing;
-    }
-    Pair::Byte(high * 16 + low, at + 2)
-}
-
-// Decodes the hexadecimal digits at the place: as many pairs as there are, and as there is room for.
-fn decode(record: &[u8], from: usize, src: &mut [u8]) -> Source {
-    let mut len = 0;
-    let mut at = from;
-    while len < src.len() {
-        let Pair::Byte(b, next) = byte_at(record, at) else {
-            return Source { len, end: at };
-        };
-        src[len] = b;
-        len += 1;
-        at = next;
-    }
-    Source { len, end: at }
-}
-
 // The reader with the switch to the mode.
 fn in_mode(reader: Reader, mode: Mode) -> Reader {
     match mode {
@@ -212,9 +132,9 @@ fn is_answered(record: &[u8], at: usize, src: &[u8], mode: Mode) -> bool {
 // Whether the record has, from the place on, a source, a space and what the scanner answers on the source in the mode.
 fn is_right_in(mode: Mode, record: &[u8], from: usize) -> bool {
     let mut src = io::buffer();
-    let source = decode(record, from, &mut src);
+    let source = lines::decode(record, from, &mut src);
     let len = source.len;
-    let Upto::Place(at) = after_bytes(record, source.end, b" ") else {
+    let Upto::Place(at) = lines::after_bytes(record, source.end, b" ") else {
         return false;
     };
     if len > 4096 {
@@ -225,13 +145,13 @@ fn is_right_in(mode: Mode, record: &[u8], from: usize) -> bool {
 
 // Whether the record is one, and the scanner answers what it has.
 fn is_right(record: &[u8]) -> bool {
-    if let Upto::Place(at) = after_bytes(record, 0, b"normal ") {
+    if let Upto::Place(at) = lines::after_bytes(record, 0, b"normal ") {
         return is_right_in(Mode::Normal, record, at);
     }
-    if let Upto::Place(at) = after_bytes(record, 0, b"pattern ") {
+    if let Upto::Place(at) = lines::after_bytes(record, 0, b"pattern ") {
         return is_right_in(Mode::HexPattern, record, at);
     }
-    if let Upto::Place(at) = after_bytes(record, 0, b"jump ") {
+    if let Upto::Place(at) = lines::after_bytes(record, 0, b"jump ") {
         return is_right_in(Mode::HexJump, record, at);
     }
     false

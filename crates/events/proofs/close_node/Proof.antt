@@ -1,8 +1,10 @@
 -- The test is the ground; start and kind are those of the Begin.
 -- Assumes nothing.
+use mathlib.Core.Path.{refl}
 use borrow.Author.Needs.{needs}
 use native.Mathlib.Omega.{arith}
-use Rattle.events.specs.AnswerLaws.{nothing-to-end, node-ended}
+use Rattle.event_record.specs.Record.{end, grounds}
+use Rattle.events.specs.AnswerLaws.{nothing-open, node-ended}
 use Rattle.events.proofs.close_node.Statement.{statement}
 use Rattle.events.proofs.close_node.Tie as tie
 
@@ -10,7 +12,8 @@ refused-requires : tie.Need-refused-requires
 refused-requires c κs = search needs
 
 returns : tie.Need-returns
-returns c = rw (c .refused .ensures) (nothing-to-end _ (c .before .before .before .before .before .pre) (omega arith))
+unfolding grounds
+returns c = rw (c .refused .ensures) (nothing-open _ (c .before .before .before .before .before .pre) end refl (omega arith))
 
 sub-place : tie.Need-sub-place
 sub-place c = search needs

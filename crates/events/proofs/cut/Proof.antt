@@ -1,8 +1,10 @@
 -- The tests are the grounds', in their order; the last token is sought among the events that are left.
 -- Assumes nothing.
+use mathlib.Core.Path.{refl}
 use borrow.Author.Needs.{needs}
 use native.Mathlib.Omega.{arith}
-use Rattle.events.specs.AnswerLaws.{none-to-cut, cut-past-end, unbalanced, cut-short}
+use Rattle.event_record.specs.Record.{truncate, grounds}
+use Rattle.events.specs.AnswerLaws.{nothing-live, too-late, unbalanced, cut-short}
 use Rattle.events.proofs.cut.Statement.{statement}
 use Rattle.events.proofs.cut.Tie as tie
 
@@ -25,12 +27,14 @@ refused-requires-3 : tie.Need-refused-requires-3
 refused-requires-3 c κs = search needs
 
 returns : tie.Need-returns
-returns c = rw (c .refused .ensures) (none-to-cut _ (search needs) _ (omega arith))
+unfolding grounds
+returns c = rw (c .refused .ensures) (nothing-live _ (search needs) (truncate _) _ refl (omega arith))
 
 returns-2 : tie.Need-returns-2
+unfolding grounds
 returns-2 c =
     let s = c .before .before .before .before .before .before .before .before .before in
-    rw (c .refused2 .ensures) (cut-past-end _ (s .pre) _ (omega arith) (omega arith))
+    rw (c .refused2 .ensures) (too-late _ (s .pre) (truncate _) _ refl (omega arith) (omega arith))
 
 returns-3 : tie.Need-returns-3
 returns-3 c =

@@ -1,8 +1,10 @@
 -- The tests are the grounds', in their order.
 -- Assumes nothing.
+use mathlib.Core.Path.{refl}
 use borrow.Author.Needs.{needs}
 use native.Mathlib.Omega.{arith}
-use Rattle.events.specs.AnswerLaws.{none-to-remove, removed-past-end, mark-removed}
+use Rattle.event_record.specs.Record.{remove-bookmark, grounds}
+use Rattle.events.specs.AnswerLaws.{nothing-live, too-late, mark-removed}
 use Rattle.events.proofs.unmark.Statement.{statement}
 use Rattle.events.proofs.unmark.Tie as tie
 
@@ -10,15 +12,17 @@ refused-requires : tie.Need-refused-requires
 refused-requires c κs = search needs
 
 returns : tie.Need-returns
-returns c = rw (c .refused .ensures) (none-to-remove _ (search needs) _ (omega arith))
+unfolding grounds
+returns c = rw (c .refused .ensures) (nothing-live _ (search needs) (remove-bookmark _) _ refl (omega arith))
 
 refused-requires-2 : tie.Need-refused-requires-2
 refused-requires-2 c κs = search needs
 
 returns-2 : tie.Need-returns-2
+unfolding grounds
 returns-2 c =
     let s = c .before .before .before .before .before .before .before in
-    rw (c .refused2 .ensures) (removed-past-end _ (s .pre) _ (omega arith) (omega arith))
+    rw (c .refused2 .ensures) (too-late _ (s .pre) (remove-bookmark _) _ refl (omega arith) (omega arith))
 
 sub-marked : tie.Need-sub-marked
 sub-marked c = search needs

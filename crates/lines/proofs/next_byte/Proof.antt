@@ -1,12 +1,12 @@
 -- `lines::next_byte` meets its contract. The loop's invariant: the run of other bytes from `from` ends where the run from `at` does.
 -- The measure is what is left of the text. Assumes nothing.
-use Prim.Native.Nat.{_+_, _-_}
+use Prim.Native.Nat.{_-_}
 use mathlib.Core.Path.{_≡_, refl, sym, ap, _∙_}
 use mathlib.Core.Bool.{not}
-use lib.ListN.{length, drop}
+use lib.ListN.{length}
 use borrow.Author.Needs.{needs}
 use borrow.Author.Tests.{eq-eqb, ne-eqb}
-use Rattle.patterns.specs.Walk.{span, span-yes, span-no, span-over}
+use Rattle.patterns.specs.Walk.{span-yes, span-no, span-over}
 use Rattle.lines.specs.Lines.{other-than, next-byte}
 use Rattle.lines.proofs.next_byte.Statement.{statement}
 use Rattle.lines.proofs.next_byte.Tie as tie

@@ -56,8 +56,8 @@ element-write-places c = search needs
 add-count : tie.Need-add-count Inv-loop μ-loop
 add-count c = search needs
 
-next-call-requires : tie.Need-next-call-requires Inv-loop μ-loop
-next-call-requires c κs = search needs
+next-byte-requires : tie.Need-next-byte-requires Inv-loop μ-loop
+next-byte-requires c κs = search needs
 
 loop-less : tie.Need-loop-less Inv-loop μ-loop
 loop-less c = search needs
@@ -89,7 +89,7 @@ read-calls-spec =
     mul-places
     element-write-places
     add-count
-    next-call-requires
+    next-byte-requires
     loop-less
     loop-again
     returns-2)

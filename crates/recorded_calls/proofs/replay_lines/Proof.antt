@@ -5,6 +5,8 @@ use mathlib.Core.Logic.{⊎-elim}
 use native.Mathlib.Omega.{arith}
 use borrow.Author.Needs.{needs}
 use lib.ListN.{length}
+use Rattle.lines.specs.Lines.{lf}
+use Rattle.lines.specs.LineLaws.{next-within}
 use Rattle.recorded_calls.proofs.replay_lines.Statement.{statement}
 use Rattle.recorded_calls.proofs.replay_lines.Tie as tie
 
@@ -14,11 +16,15 @@ Inv-loop text lines₀ calls₀ small₀ differ₀ at₀ lines calls small diffe
 abbrev μ-loop : tie.MeasureT-loop
 μ-loop text lines₀ calls₀ small₀ differ₀ at₀ lines calls small differ at = length text - at
 
+-- a line that starts within the text ends within it
+end-within : (c : tie.After-line-end Inv-loop μ-loop) → c .line-end .result ≤ length (c .before .before .before .before .args .text .now)
+end-within c = next-within _ _ lf (c .line-end .ensures) (omega arith)
+
 loop-holds : tie.Need-loop-holds Inv-loop μ-loop
 loop-holds c = search needs
 
-next-byte-requires : tie.Need-next-byte-requires Inv-loop μ-loop
-next-byte-requires c κs = search needs
+line-end-requires : tie.Need-line-end-requires Inv-loop μ-loop
+line-end-requires c κs = search needs
 
 add-lines : tie.Need-add-lines Inv-loop μ-loop
 add-lines c = search needs
@@ -30,7 +36,7 @@ part-sequence-start : tie.Need-part-sequence-start Inv-loop μ-loop
 part-sequence-start c = search needs
 
 part-sequence-end : tie.Need-part-sequence-end Inv-loop μ-loop
-part-sequence-end c = search needs
+part-sequence-end c = omega (arith, end-within c)
 
 sequence-requires : tie.Need-sequence-requires Inv-loop μ-loop
 sequence-requires c κs = search needs
@@ -48,13 +54,14 @@ add-differ : tie.Need-add-differ Inv-loop μ-loop
 add-differ c = search needs
 
 add-at : tie.Need-add-at Inv-loop μ-loop
-add-at c = search needs
+add-at c = omega (arith, end-within (c .before .before .before .before .before))
 
 loop-less : tie.Need-loop-less Inv-loop μ-loop
 loop-less c = search needs
 
 loop-again : tie.Need-loop-again Inv-loop μ-loop
-loop-again c = ⊎-elim (λ w. omega arith) (λ w. omega arith) (c .if1 .came)
+loop-again c =
+    let h = end-within (c .before .before .before .before .before) in ⊎-elim (λ w. omega (arith, h)) (λ w. omega (arith, h)) (c .if1 .came)
 
 returns : tie.Need-returns Inv-loop μ-loop
 returns c = search needs
@@ -66,7 +73,7 @@ replay-lines-spec =
     Inv-loop
     μ-loop
     loop-holds
-    next-byte-requires
+    line-end-requires
     add-lines
     sub-sequence
     part-sequence-start

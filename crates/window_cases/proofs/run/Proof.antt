@@ -17,7 +17,8 @@ abbrev μ-loop : tie.MeasureT-loop
 μ-loop text n room₀ on₀ at₀ _ room on at = n - at
 
 -- a line that starts within the text ends within it
-end-within : (c : tie.After-line-end Inv-loop μ-loop) → c .line-end .result ≤ length (c .before .before .before .before .before .before .args .text .now)
+end-within : (c : tie.After-line-end Inv-loop μ-loop)
+    → c .line-end .result ≤ length (c .before .before .before .before .before .before .args .text .now)
 end-within c = next-within _ _ lf (c .line-end .ensures) (omega arith)
 
 new-requires : tie.Need-new-requires Inv-loop μ-loop
