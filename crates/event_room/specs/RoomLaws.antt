@@ -7,11 +7,11 @@ use native.Mathlib.Nat.{add-zero}
 use native.Mathlib.Omega.{arith}
 use borrow.Author.Tests.{lt-ltb, le-ltb, ltb-true, ltb-false}
 use lib.ListN.{length, getD, set}
-use lib.Seq.{set-getD, sets, length-sets}
+use lib.Seq.{set-getD, length-sets}
 use lib.Dec.{ltb}
 use Rattle.patterns.specs.Bools.{by-test}
 use Rattle.rooms.specs.declared.Slot.{Slot}
-use Rattle.rooms.specs.Stores.{sets-here, sets-other}
+use Rattle.rooms.specs.Slots.{Layout, slot-same, slot-other}
 use Rattle.event_record.specs.declared.Event.{Event}
 use Rattle.event_record.specs.Record.{span, event-of}
 use Rattle.event_room.specs.Room.{width, numbers, from-numbers, slots-in, slot-in, write-at, read-at, write, read, written}
@@ -79,37 +79,32 @@ length-written room f i [] = refl
 length-written room f i (y ∷ ys) =
     length-written (write room (slot-in room f i) y) f (i + 1) ys ∙ length-write room (slot-in room f i) y
 
--- an event is its numbers
-same-numbers : (f g : ℕ → ℕ) → ((j : ℕ) → j < width → f j ≡ g j) → from-numbers f ≡ from-numbers g
-same-numbers f g h = rw (h 0 (omega arith), h 1 (omega arith), h 2 (omega arith), h 3 (omega arith))
-
-module _ (room : List ℕ) (s : Slot) (y : Event) where
-  at-same : s .0 * width + width ≤ length room → read-at (write-at room s y) s ≡ y
-  unfolding read-at write-at
-  at-same h =
-      same-numbers (λ j. getD (sets room (s .0 * width) (numbers y)) (s .0 * width + j) 0) (λ j. getD (numbers y) j 0)
-      (λ j k. sets-here (numbers y) room (s .0 * width) j k h)
-
-  at-other : (u : Slot) → (u .0 ≡ s .0 → ⊥) → read-at (write-at room s y) u ≡ read-at room u
-  unfolding read-at write-at
-  at-other u d =
-      same-numbers (λ j. getD (sets room (s .0 * width) (numbers y)) (u .0 * width + j) 0) (λ j. getD room (u .0 * width + j) 0)
-      (λ j k. sets-other (numbers y) room (s .0 * width) (u .0 * width + j) (λ n h e. d (omega (arith, e))))
+-- an event is its four numbers
+layout : Layout width numbers from-numbers
+layout =
+    record {
+      sized = λ y. refl;
+      back = λ y. refl;
+      same = λ f g h. rw (h 0 (omega arith), h 1 (omega arith), h 2 (omega arith), h 3 (omega arith));
+      apart = λ s u i j h k e. omega (arith, e);
+    }
 
 -- a room has its slots still when an event was written
 same-slots : (room : List ℕ) (s : Slot) (y : Event) → slots-in (length room) ≡ slots-in (length (write room s y))
 same-slots room s y = ap slots-in (sym (length-write room s y))
 
 pub read-same : (room : List ℕ) (s : Slot) (y : Event) → s .0 < slots-in (length room) → read (write room s y) s ≡ y
+unfolding read-at write-at
 read-same room s y h =
     sym (read-inside (write room s y) s (same-slots room s y) h)
-    ∙ rw (← write-inside room s refl h y) (at-same room s y (slot-fits room s refl h))
+    ∙ rw (← write-inside room s refl h y) (slot-same layout room (s .0) y (slot-fits room s refl h))
 
 read-apart : (room : List ℕ) (s u : Slot) (y : Event) → s .0 < slots-in (length room) → (u .0 ≡ s .0 → ⊥) → read (write room s y) u ≡ read room u
+unfolding read-at write-at
 read-apart room s u y h d =
     let e = same-slots room s y in
     either room u
-    (λ k. sym (read-inside (write room s y) u e k) ∙ rw (← write-inside room s refl h y) (at-other room s y u d) ∙ read-inside room u refl k)
+    (λ k. sym (read-inside (write room s y) u e k) ∙ rw (← write-inside room s refl h y) (slot-other layout room (s .0) y (u .0) d) ∙ read-inside room u refl k)
     (λ k. sym (read-outside (write room s y) u e k) ∙ read-outside room u refl k)
 
 pub read-other : (room : List ℕ) (s u : Slot) (y : Event) → (u .0 ≡ s .0 → ⊥) → read (write room s y) u ≡ read room u

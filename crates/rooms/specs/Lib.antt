@@ -1,2 +1,3 @@
--- Laws of numbers that are stored in lent room.
+-- Laws of numbers that are stored in lent room (Stores), and of what stands in its slots (Slots).
 pub mod Stores
+pub mod Slots

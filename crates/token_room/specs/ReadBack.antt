@@ -1,17 +1,15 @@
 -- The last W tokens written, W being the number of slots, are read back: indexes fewer than W apart have different slots, and a store
 -- into one slot leaves the others. And to write on where writing stopped is to write all at once. Assumes nothing.
-use Prim.Native.Nat.{ℕ, zero, suc, _+_, _-_, _*_, _%_, _<_, _≤_}
+use Prim.Native.Nat.{ℕ, zero, suc, _+_, _-_, _%_, _<_, _≤_}
 use mathlib.Core.Path.{_≡_, refl, ap, sym, _∙_}
 use mathlib.Core.List.{List, [], _∷_, _++_}
 use native.Mathlib.Omega.{arith}
 use native.Mathlib.Nat.{add-zero, zero-add, mod-lt, mod-eq-of-lt, mod-add-mod, mod-eq-sub-mod}
 use lib.ListN.{length, getD}
-use lib.Seq.{sets}
 use lib.Dec.{ltb}
 use borrow.Author.Tests.{ltb-true, ltb-false}
 use Rattle.patterns.specs.Bools.{by-test}
-use Rattle.rooms.specs.declared.Slot.{Slot}
-use Rattle.rooms.specs.Stores.{sets-other, sets-here}
+use Rattle.rooms.specs.Slots.{Layout, slot-same, slot-other}
 use Rattle.tokens.specs.declared.Token.{Token}
 use Rattle.tokens.specs.Scan.{token}
 use Rattle.token_room.specs.Room.{width, numbers, from-numbers, slots-in, slot-of, write-at, read-at, write, read, nth, write-all}
@@ -38,38 +36,33 @@ module _ (w i j : ℕ) (h : i < j) (d : j < i + w) (e : i % w ≡ j % w) where
   slots-differ : ⊥
   slots-differ = by-test (ltb sum w) (λ b. not-under (ltb-true sum w b)) (λ b. not-over (ltb-false sum w b))
 
--- a token is its numbers
-same-numbers : (f g : ℕ → ℕ) → ((j : ℕ) → j < width → f j ≡ g j) → from-numbers f ≡ from-numbers g
-same-numbers f g h = rw (h 0 (omega arith), h 1 (omega arith), h 2 (omega arith))
-
-module _ (room : List ℕ) (s : Slot) (x : Token) where
-  slot-same : s .0 * width + width ≤ length room → read-at (write-at room s x) s ≡ x
-  unfolding read-at write-at
-  slot-same h =
-      same-numbers (λ j. getD (sets room (s .0 * width) (numbers x)) (s .0 * width + j) 0) (λ j. getD (numbers x) j 0)
-      (λ j k. sets-here (numbers x) room (s .0 * width) j k h)
-
-  slot-other : (u : Slot) → (u .0 ≡ s .0 → ⊥) → read-at (write-at room s x) u ≡ read-at room u
-  unfolding read-at write-at
-  slot-other u d =
-      same-numbers (λ j. getD (sets room (s .0 * width) (numbers x)) (u .0 * width + j) 0) (λ j. getD room (u .0 * width + j) 0)
-      (λ j k. sets-other (numbers x) room (s .0 * width) (u .0 * width + j) (λ n h e. d (omega (arith, e))))
+-- a token is its three numbers
+layout : Layout width numbers from-numbers
+layout =
+    record {
+      sized = λ x. refl;
+      back = λ x. refl;
+      same = λ f g h. rw (h 0 (omega arith), h 1 (omega arith), h 2 (omega arith));
+      apart = λ s u i j h k e. omega (arith, e);
+    }
 
 read-same : (room : List ℕ) (i : ℕ) (x : Token) → 1 ≤ slots-in (length room) → read (write room (nth i) x) (nth i) ≡ x
+unfolding read-at write-at
 read-same room i x h =
     let w = slots-in (length room) in
     let n : length (write room (nth i) x) ≡ length room = length-write room (nth i) x in
     let b : i % w < w = mod-lt i (omega arith) in
     sym (read-slot (write room (nth i) x) (nth i) refl (rw n h) refl)
-    ∙ rw (n, ← write-slot room (nth i) refl h refl x) (slot-same room (slot-of (nth i) w) x (omega arith))
+    ∙ rw (n, ← write-slot room (nth i) refl h refl x) (slot-same layout room (slot-of (nth i) w .0) x (omega arith))
 
 read-other : (room : List ℕ) (i j : ℕ) (x : Token) → i < j → j < i + slots-in (length room) → read (write room (nth j) x) (nth i) ≡ read room (nth i)
+unfolding read-at write-at
 read-other room i j x d g =
     let w = slots-in (length room) in
     let h : 1 ≤ w = omega arith in
     let n : length (write room (nth j) x) ≡ length room = length-write room (nth j) x in
     sym (read-slot (write room (nth j) x) (nth i) refl (rw n h) refl)
-    ∙ rw (n, ← write-slot room (nth j) refl h refl x) (slot-other room (slot-of (nth j) w) x (slot-of (nth i) w) (slots-differ w i j d g))
+    ∙ rw (n, ← write-slot room (nth j) refl h refl x) (slot-other layout room (slot-of (nth j) w .0) x (slot-of (nth i) w .0) (slots-differ w i j d g))
     ∙ read-slot room (nth i) refl h refl
 
 -- tokens behind index i, and not so many that its slot comes again
