@@ -34,7 +34,7 @@ module _ (e : ℕ) (f : Slot) (i : ℕ) where
       by-test (ltb i (e - f .0)) (λ t. let h = ltb-true i (e - f .0) t in x h (ahead h))
       (λ t. let h = ltb-false i (e - f .0) t in y h (behind h))
 
-pub slot-inside : (e : ℕ) (f : Slot) (i : ℕ) → f .0 < e → i < e → slot-of e f i .0 < e
+pub slot-inside : (e : ℕ) (f : Slot) (i : ℕ) → f .0 < e → i ≤ e → slot-of e f i .0 < e
 slot-inside e f i h k = by-place e f i (λ p q. omega (arith, q)) (λ p q. omega (arith, q))
 
 pub slots-apart : (e : ℕ) (f : Slot) (i j : ℕ) → f .0 < e → i < e → j < e → (i ≡ j → ⊥) → slot-of e f i .0 ≡ slot-of e f j .0 → ⊥

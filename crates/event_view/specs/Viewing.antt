@@ -1,28 +1,19 @@
 -- A stream's calls are the plain list's; `commutes` at a call is that call's law. A list laid into the rooms is seen there again: its events
 -- have slots of their own, its open places stand first, and it has room, since the record keeps within its sizes. Assumes nothing.
-use Prim.Native.Nat.{ℕ, _-_, _≤_, _<_}
+use Prim.Native.Nat.{_≤_, _<_}
 use mathlib.Core.Path.{_≡_, refl}
 use native.Mathlib.Omega.{arith}
 use lib.ListN.{length}
-use lib.Dec.{ltb}
-use borrow.Author.Tests.{ltb-true, ltb-false}
-use Rattle.patterns.specs.Bools.{by-test}
-use Rattle.rooms.specs.declared.Slot.{Slot}
 use Rattle.rooms.specs.Stores.{take-sets}
 use Rattle.event_record.specs.Record.{Call, Answer, done, none, position, event, refused, Reply, reply, Record, taken, grounds}
 use Rattle.event_record.specs.Record as of-list
-use Rattle.event_room.specs.Room.{slots-in, slot-of}
-use Rattle.event_room.specs.RingLaws.{listed-written}
+use Rattle.event_room.specs.Room.{slots-in}
+use Rattle.event_room.specs.RingLaws.{slot-inside, listed-written}
 use Rattle.events.specs.Stream.{State, view, front-after, laid, answered, step}
 use Rattle.events.specs.SoundLaws.{Fit, fit-sound, answered-now}
 use Rattle.events.specs.HoldLaws.{view-count, view-opened}
 use Rattle.event_view.specs.CallLaws.{both-ways, any-number}
 use Rattle.event_view.specs.Nesting.{Sized, taken-sized}
-
--- the slot behind a front is in the ring, be it of one slot
-next-inside : (e : ℕ) (f : Slot) → f .0 < e → slot-of e f 1 .0 < e
-next-inside e f h =
-    by-test (ltb 1 (e - f .0)) (λ b. rw b (omega (arith, ltb-true 1 (e - f .0) b))) (λ b. rw b (omega (arith, ltb-false 1 (e - f .0) b)))
 
 -- A list laid into the rooms is the list that is seen.
 pub view-laid : (s : State) (a : Answer) (r : Record)
@@ -42,7 +33,7 @@ module _ (s : State) (k : Fit s) where
   front-after-inside done h = k .front-inside h
   front-after-inside none h = k .front-inside h
   front-after-inside (position p) h = k .front-inside h
-  front-after-inside (event y) h = next-inside (s .stream .slots) (s .stream .front) (k .front-inside h)
+  front-after-inside (event y) h = slot-inside (s .stream .slots) (s .stream .front) 1 (k .front-inside h) h
   front-after-inside (refused n) h = k .front-inside h
 
   pub view-sized : Sized (s .stream .slots) (s .stream .places) (view s)

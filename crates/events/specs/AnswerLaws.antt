@@ -24,10 +24,10 @@ use Rattle.events.specs.HoldLaws.{mark-held, push-held, begin-held, end-
 
 -- push_token and push_error
 module _ (s : State) where
-  pub token-pushed : (kd : ℕ) (x : Span) {b : Bool} {r : Reply State} → b ≡ sound s → b ≡ true
-      → r ≡ pushes (event-of token-tag kd x) x s → r ≡ step (push-token kd x) s
+  pub token-pushed : (kind : ℕ) (x : Span) {b : Bool} {r : Reply State} → b ≡ sound s → b ≡ true
+      → r ≡ pushes (event-of token-tag kind x) x s → r ≡ step (push-token kind x) s
   unfolding answered pushes
-  token-pushed kd x p e h = passed-on s (push-token kd x) p e h
+  token-pushed kind x p e h = passed-on s (push-token kind x) p e h
 
   pub error-pushed : (m : ℕ) (x : Span) {b : Bool} {r : Reply State} → b ≡ sound s → b ≡ true
       → r ≡ pushes (event-of error-tag m x) (s .stream .last) s → r ≡ step (push-error m x) s
@@ -53,13 +53,13 @@ module _ (s : State) (k : Fit s) where
         rw (e, le-ltb _ _ l) (push-held s k y x)
 
   -- begin
-  module _ (kd : ℕ) where
-    pub too-deep : s .stream .places ≤ s .stream .opened → reply (refused 11) s ≡ answered (begin kd) s
+  module _ (kind : ℕ) where
+    pub too-deep : s .stream .places ≤ s .stream .opened → reply (refused 11) s ≡ answered (begin kind) s
     unfolding answered
     too-deep h = rw (view-opened s k, le-leb _ _ h)
 
     pub no-two-slots : s .stream .opened < s .stream .places → s .stream .slots - (s .stream .count + s .stream .opened) < 2
-        → reply (refused 5) s ≡ answered (begin kd) s
+        → reply (refused 5) s ≡ answered (begin kind) s
     unfolding answered
     no-two-slots p h =
         let d : length (view s .opens) < view s .places = omega (arith, view-opened s k) in
@@ -67,12 +67,12 @@ module _ (s : State) (k : Fit s) where
         rw (lt-leb _ _ d, lt-ltb _ _ l)
 
     pub node-opened : s .stream .opened < s .stream .places → 2 ≤ s .stream .slots - (s .stream .count + s .stream .opened)
-        → reply done (begin-left kd s) ≡ answered (begin kd) s
+        → reply done (begin-left kind s) ≡ answered (begin kind) s
     unfolding answered
     node-opened p h =
         let d : length (view s .opens) < view s .places = omega (arith, view-opened s k) in
         let l : 2 ≤ spare (view s) = omega (arith, view-count s k, view-opened s k) in
-        rw (lt-leb _ _ d, le-ltb _ _ l) (begin-held s k kd p)
+        rw (lt-leb _ _ d, le-ltb _ _ l) (begin-held s k kind p)
 
   -- end and end_with_error
   some-open : 0 < s .stream .opened → eqb (length (view s .opens)) 0 ≡ false

@@ -31,15 +31,15 @@ push-left y x s =
     state (counting (t .count + 1) (t .opened) x t) (write (s .room) (slot-at t (t .count)) y) (s .opens)
 
 abbrev pub begin-left : ℕ → State → State
-begin-left kd s =
+begin-left kind s =
     let t = s .stream in
-    state (counting (t .count + 1) (t .opened + 1) (t .last) t) (write (s .room) (slot-at t (t .count)) (opening kd t))
+    state (counting (t .count + 1) (t .opened + 1) (t .last) t) (write (s .room) (slot-at t (t .count)) (opening kind t))
     (set (s .opens) (t .opened) (t .count))
 
 abbrev pub end-left : ℕ → State → State
-end-left kd s =
+end-left kind s =
     let t = s .stream in
-    state (counting (t .count + 1) (t .opened - 1) (t .last) t) (closing kd (inner-place s) t (s .room)) (s .opens)
+    state (counting (t .count + 1) (t .opened - 1) (t .last) t) (closing kind (inner-place s) t (s .room)) (s .opens)
 
 abbrev pub drop-left : State → State
 drop-left s = state (counting (inner-place s) (s .stream .opened - 1) (s .stream .last) (s .stream)) (s .room) (s .opens)
@@ -164,11 +164,11 @@ module _ (s : State) (k : Fit s) where
       laid-as s done (pushed y (lasting x (view s))) front (t .count + 1) (t .opened) (write (s .room) (slot-at t (t .count)) y) (s .opens)
       refl (count-more y) (sym view-opened) (room-more y) (sym (sets-take (s .opens) (t .opened) opened-inside))
 
-  pub begin-held : (kd : ℕ) → s .stream .opened < s .stream .places → reply done (begin-left kd s) ≡ laid s (reply done (begun kd (view s)))
+  pub begin-held : (kind : ℕ) → s .stream .opened < s .stream .places → reply done (begin-left kind s) ≡ laid s (reply done (begun kind (view s)))
   unfolding view
-  begin-held kd p =
-      let y = opening kd t in
-      laid-as s done (begun kd (view s)) front (t .count + 1) (t .opened + 1) (write (s .room) (slot-at t (t .count)) y)
+  begin-held kind p =
+      let y = opening kind t in
+      laid-as s done (begun kind (view s)) front (t .count + 1) (t .opened + 1) (write (s .room) (slot-at t (t .count)) y)
       (set (s .opens) (t .opened) (t .count)) refl (count-more y)
       (omega (arith, length-append (view s .opens) (length (view s .events) ∷ []), view-opened)) (room-more y)
       (rw view-count (one-opened (s .opens) (t .opened) (t .count) (omega (arith, k .places-same))))
@@ -188,13 +188,13 @@ module _ (s : State) (k : Fit s) where
       let l : 0 + t .count ≤ slots-in (length (s .room)) = omega (arith, count-inside) in
       rw (k .slots-same) (sym (rw (zero-add p) at (written-set (s .room) front 0 (t .count) p y f l h)))
 
-  pub end-held : (kd : ℕ) → 0 < s .stream .opened → reply done (end-left kd s) ≡ laid s (reply done (ended kd (view s)))
+  pub end-held : (kind : ℕ) → 0 < s .stream .opened → reply done (end-left kind s) ≡ laid s (reply done (ended kind (view s)))
   unfolding view
-  end-held kd o =
+  end-held kind o =
       let p = inner-place s in
       let x = span (event-at t (s .room) p .span .start .0) (t .last .end .0) in
-      let y = event-of begin-tag kd x in
-      let z = event-of end-tag kd x in
+      let y = event-of begin-tag kind x in
+      let z = event-of end-tag kind x in
       let es = set (view s .events) p y in
       let room = write (s .room) (slot-at t p) y in
       let n : length es ≡ t .count = length-set (view s .events) p y ∙ view-count in
