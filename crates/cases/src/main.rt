@@ -1,9 +1,11 @@
-// Runs document 01's cases on the scanner: its marked case that is run, the limit, forged readers, switches and bad input.
+// Runs document 01's cases on the scanner: its marked case that is run, the limit, forged readers, switches and bad input; then
+// some of them on a token source.
 // Each group writes what it finds; the file stdout has what document 01 says.
 mod cut_off;
 mod lengths;
 mod modes;
 mod say;
+mod sources;
 
 use tokens::Mode;
 
@@ -16,4 +18,7 @@ fn main() {
     lengths::rows();
     lengths::texts();
     cut_off::characters();
+    sources::in_mode(Mode::Normal);
+    sources::in_mode(Mode::HexPattern);
+    sources::in_mode(Mode::HexJump);
 }

@@ -1,0 +1,6 @@
+pub mod Answers
+pub mod Lent
+pub mod Lifted
+pub mod Params
+pub mod Shapes
+pub mod Thin

@@ -1,0 +1,5 @@
+-- What the walks of this crate share.
+pub mod Held
+pub mod Pair
+pub mod Steps
+pub mod Switch
