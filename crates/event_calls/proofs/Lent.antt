@@ -17,7 +17,7 @@ use types.Part.{whole, sub, look-in}
 use types.SemTy.{Body as Lies}
 use denote.Memory.{mem, pointee, cellAt}
 use denote.Laws.{Is, shows}
-use denote.Ref.{MutRef}
+use denote.Ref.{RefT, MutRef}
 use denote.Steps.{opens, closes, owned, peeks}
 use denote.Struct.Steps.{spelt}
 use denote.Struct.Laws as LL
@@ -35,15 +35,18 @@ pub record Lent : Type 0 where
   pub offset : ℕ
   pub name : GName
 
--- the reference's type and machine value, what it owns, and the token of its lifetime
+-- the reference's type and machine value, what it is to a contract, what it owns, and the token of its lifetime
 abbrev pub ref-ty : Ty
 ref-ty = tyRef (named 0) mut (pointee (T.the-row .written))
 
 abbrev pub ref-val : Lent → Val
 ref-val r = vptr (r .block) (r .offset)
 
+abbrev pub lent-out : Lent → Stream → RefT Stream
+lent-out r h = record { ptr = (r .block, r .offset); name = r .name; now = h }
+
 abbrev pub reference : Lent → Stream → Fml
-reference r h = MutRef (named 0) (r .lft) T.the-row .own (record { ptr = (r .block, r .offset); name = r .name; now = h }) (ref-val r ∷ [])
+reference r h = MutRef (named 0) (r .lft) T.the-row .own (lent-out r h) (ref-val r ∷ [])
 
 abbrev pub token : Lent → Fml
 token r = flft (r .lft) (r .share)

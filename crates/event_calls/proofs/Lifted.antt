@@ -12,24 +12,25 @@ use ghost.Atoms.{Atoms, sem}
 use sound.WpLaws.{FmC, fmOf}
 use contract.Monad.{fact}
 use contract.Lifetimes.{Lfts, Shares, toks}
-use types.Kit.{Given, ‵, raw, _⊛_, some, ⋆, _$_, _∵_, !, qed, move, drop, use1, split, pick, join, keep, fsplit, fjoin, frame, show, updating, now as at-once, done}
+use types.Kit.{Given, ‵, raw, _⊛_, some, ⋆, _$_, _∵_, !, qed, by, move, drop, use1, split, pick, join, keep, fsplit, fjoin, frame, show, updating, now as at-once, done}
 use denote.RattleType.{Denots, Valss, flat, owns}
 use denote.Laws.{Is, Are, Ises, Spells, Tells, Tellss, valss}
 use denote.Builtin.{RefMutOf}
 use denote.Exit.{yes}
 use denote.Ref.{now, ptr-vals, mut-tells}
 use denote.Signature.{Slot, plain, typeAt, typesAt}
-use denote.Steps.{owned, nothing}
+use denote.Steps.{owned, heard, nothing}
 use denote.Struct.Laws as LL
-use denote.Triple.Clauses.{Ended, Clauses, closing}
+use denote.Triple.Clauses.{Ended, Clauses, AtExit, closing}
 use denote.Triple.End.{all, Fins, Outs, outs, lastsOf}
+use denote.Triple.Entry.{Args}
 use denote.Triple.Spec.{Meets}
-use Rattle.walks.specs.Contracts.{spelled, worded}
+use Rattle.walks.specs.Contracts.{spelled}
 use Rattle.events.specs.declared.Stream.{Stream}
 use Rattle.events.proofs.Stream as T
 use Rattle.events.proofs.Stream.Laws as T′
 use Rattle.event_calls.proofs.Answers.{Answers, stream-val}
-use Rattle.event_calls.proofs.Lent.{Lent, ref-val, reference, token, closed}
+use Rattle.event_calls.proofs.Lent.{Lent, lent-out, ref-val, reference, token, closed}
 use Rattle.event_calls.proofs.Params.{Kind, Passed, value, Arguments, passed-values}
 use Rattle.event_calls.proofs.Thin.{shape, walk}
 
@@ -81,12 +82,13 @@ abbrev pub Promise : Answers → List Param → Type 1
 Promise F ps = (κs : Lfts 3) → Stream → Denots (typesAt (slots ps) κs) → F .answer .Denot → Stream → Outs κs (slots ps) (all yes (slots ps)) → Type 0
 
 module _ (F : Answers) (ps : List Param) where
-  -- its signature, and its contract
+  -- its signature
   abbrev pub thin-ended : Ended
   thin-ended = record { signature = record { lifetimes = 3; outlives = []; params = RefMutOf (0 ∷ []) tt (plain (λ _. T.the-row)) (λ _. tt) ∷ slots ps; result = plain (λ _. F .answer) }; kept = (yes, all yes (slots ps)) }
 
-  abbrev pub thin-says : {M : Type 1} (𝓤 : URA M) → Promise F ps → Clauses 𝓤 thin-ended
-  thin-says 𝓤 Says κs a = record { ghost = Unit {0}; requires = λ _. emp 𝓤; ensures = λ _ e z. fact 𝓤 (Says κs (now (a .0)) (a .1) e (now (z .0)) (z .1)) }
+  -- what is promised in the contract follows
+  abbrev pub Promised : {M : Type 1} (𝓤 : URA M) → Promise F ps → Clauses 𝓤 thin-ended → Type 1
+  Promised 𝓤 Says c = (κs : Lfts 3) (a : Args (thin-ended .signature) κs) (g : c κs a .ghost) (e : F .answer .Denot) (z : AtExit thin-ended κs) → Says κs (now (a .0)) (a .1) e (now (z .0)) (z .1) → ent 𝓤 (emp 𝓤) (c κs a .ensures g e z)
 
   module _ {M : Type 1} (𝓤 : URA M) (H : Heap 𝓤) (A : Atoms 𝓤) (W : Given 𝓤 H A) (n : Name) (Says : Promise F ps) (C : Calls 𝓤 H) (Λ : Loops 𝓤 H) (fm : FmC 𝓤 H (W .laws) C) (κs : Lfts 3) (qs : Shares 3) (h : Stream) (a : Denots (typesAt (slots ps) κs)) (is : Known ps κs a) where
     -- the others' tokens, what they own, their last values, and what is promised of these
@@ -117,10 +119,10 @@ module _ (F : Answers) (ps : List Param) where
         ent 𝓤 (sep 𝓤 (sep 𝓤 tokens (sem 𝓤 H A (fsep (T.the-row .own h (stream-val h ∷ [])) owned-by-others))) (emp 𝓤))
         (C n (stream-val h ∷ passed-values (kinds ps) passed) (λ w. H .⇛ (ex 𝓤 (λ (x : F .given .Denot). sep 𝓤 (sep 𝓤 tokens (sem 𝓤 H A (F .given .own x (w ∷ [])))) (core-says x)))))
 
-    module _ (r : Lent) where
+    module _ (r : Lent) (c : Clauses 𝓤 thin-ended) (g : c κs (lent-out r h, a) .ghost) where
       -- what the thin call leaves: the last values with its promise; tokens, the answer and that
       abbrev left-with : F .answer .Denot → Stream × Lasts → SProp 𝓤
-      left-with e ws = sep 𝓤 (sem 𝓤 H A (fsep (fres (r .name) (T.the-row .coded .code (ws .0))) (lasts (ws .1)))) (fact 𝓤 (Said e (ws .0) (ws .1)))
+      left-with e ws = sep 𝓤 (sem 𝓤 H A (fsep (fres (r .name) (T.the-row .coded .code (ws .0))) (lasts (ws .1)))) (c κs (lent-out r h, a) .ensures g e (lent-out r (ws .0), outs κs (slots ps) (all yes (slots ps)) a (ws .1)))
 
       abbrev answered-with : Val → F .answer .Denot → SProp 𝓤
       answered-with v e = sep 𝓤 (sep 𝓤 (sep 𝓤 (sem 𝓤 H A (token r)) tokens) (sem 𝓤 H A (F .answer .own e (v ∷ [])))) (ex 𝓤 (left-with e))
@@ -129,32 +131,33 @@ module _ (F : Answers) (ps : List Param) where
       thin-post v = H .⇛ (ex 𝓤 (answered-with v))
 
       -- at exit the lender reads the record that was stored
-      exits : (x : F .given .Denot) → Is (F .answer) (F .answer-of x) (F .val (F .answer-of x) ∷ []) → ent 𝓤 (⋆ 𝓤 H A (closed r (F .stream-of x) (raw tokens ∷ raw (core-says x) ∷ []))) (thin-post (F .val (F .answer-of x)))
-      exits x i =
+      exits : Promised 𝓤 Says c → (x : F .given .Denot) → Is (F .answer) (F .answer-of x) (F .val (F .answer-of x) ∷ []) → ent 𝓤 (⋆ 𝓤 H A (closed r (F .stream-of x) (raw tokens ∷ raw (core-says x) ∷ []))) (thin-post (F .val (F .answer-of x)))
+      exits promised x i =
           qed W (closed r (F .stream-of x) (raw tokens ∷ raw (core-says x) ∷ [])) ∵
-          updating ! $ at-once ! $ move ! (4 ∷ []) $ use1 W (some (λ (ws : Unit {0} × Lasts). ‵ (fsep ftrue (lasts (ws .1))) ⊛ raw (fact 𝓤 (Said (F .answer-of x) (F .stream-of x) (ws .1))))) (id⊢ 𝓤 _) $ pick ! (λ ws. split ! $ fsplit ! $ drop ! $
-          -- [the last values; the promise; the record's last value; its borrow; its token; the others' tokens]
-          show ! (answered-with (F .val (F .answer-of x))) (F .answer-of x) $ owned ! (F .answer) (Is (F .answer)) (F .makes 𝓤 H A) (F .answer-of x) _ i $ move ! (5 ∷ 6 ∷ []) $ join ! $ join ! $ frame ! $
-          show ! (left-with (F .answer-of x)) (F .stream-of x, ws .1) $ move ! (2 ∷ []) $ use1 W (‵ (fres (r .name) (T.the-row .coded .code (F .stream-of x)))) (W .names .obs-res (r .name) (T.the-row .coded .code (F .stream-of x))) $ fjoin ! $ frame ! $ keep ! (0 ∷ []) $ done !)
+          updating ! $ at-once ! $ move ! (4 ∷ []) $ use1 W (some (λ (ws : Unit {0} × Lasts). ‵ (fsep ftrue (lasts (ws .1))) ⊛ raw (fact 𝓤 (Said (F .answer-of x) (F .stream-of x) (ws .1))))) (id⊢ 𝓤 _) $ pick ! (λ ws. split ! $ fsplit ! $ drop ! $ move ! (1 ∷ []) $ heard ! _ (λ said.
+          -- [the last values; the record's last value; its borrow; its token; the others' tokens]
+          show ! (answered-with (F .val (F .answer-of x))) (F .answer-of x) $ owned ! (F .answer) (Is (F .answer)) (F .makes 𝓤 H A) (F .answer-of x) _ i $ move ! (4 ∷ 5 ∷ []) $ join ! $ join ! $ frame ! $
+          show ! (left-with (F .answer-of x)) (F .stream-of x, ws .1) $ move ! (1 ∷ []) $ use1 W (‵ (fres (r .name) (T.the-row .coded .code (F .stream-of x)))) (W .names .obs-res (r .name) (T.the-row .coded .code (F .stream-of x))) $ fjoin ! $ frame ! $ drop ! $
+          by ! (promised κs (lent-out r h, a) g (F .answer-of x) _ said)))
 
-      lifted : Covered → ent 𝓤 (sep 𝓤 (sep 𝓤 (sep 𝓤 (sem 𝓤 H A (token r)) tokens) (sem 𝓤 H A (fsep (reference r h) owned-by-others))) (emp 𝓤)) (WpFn 𝓤 H C Λ (shape F (kinds ps) n) (ref-val r ∷ passed-values (kinds ps) passed) thin-post)
-      lifted known =
+      lifted : Promised 𝓤 Says c → Covered → ent 𝓤 (sep 𝓤 (sep 𝓤 (sep 𝓤 (sem 𝓤 H A (token r)) tokens) (sem 𝓤 H A (fsep (reference r h) owned-by-others))) (c κs (lent-out r h, a) .requires g)) (WpFn 𝓤 H C Λ (shape F (kinds ps) n) (ref-val r ∷ passed-values (kinds ps) passed) thin-post)
+      lifted promised known =
           via 𝓤 _
-          (qed W (((‵ (token r) ⊛ raw tokens) ⊛ ‵ (fsep (reference r h) owned-by-others)) ∷ ‵ ftrue ∷ []) ∵ split ! $ split ! $ move ! (2 ∷ []) $ fsplit ! $ move ! (0 ∷ 2 ∷ 3 ∷ 1 ∷ []) $ frame ! $ frame ! $ keep ! (0 ∷ 1 ∷ []) $ done !)
+          (qed W (((‵ (token r) ⊛ raw tokens) ⊛ ‵ (fsep (reference r h) owned-by-others)) ∷ raw (c κs (lent-out r h, a) .requires g) ∷ []) ∵ split ! $ split ! $ move ! (2 ∷ []) $ fsplit ! $ move ! (0 ∷ 2 ∷ 3 ∷ 1 ∷ []) $ frame ! $ frame ! $ keep ! (0 ∷ 1 ∷ []) $ done !)
           (walk 𝓤 H A W F n (kinds ps) passed r h (sep 𝓤 tokens (sem 𝓤 H A owned-by-others)) tokens core-says thin-post C Λ fm
           (λ i. via 𝓤 _ (qed W (raw tokens ∷ ‵ owned-by-others ∷ []) ∵ move ! (1 ∷ []) $ owned ! T.the-row (Is T.the-row) (LL.makes T.the-type T′.the-plain 𝓤 H A) h (stream-val h ∷ []) i $ fjoin ! $ move ! (1 ∷ 0 ∷ []) $ join ! $ nothing ! $ move ! (1 ∷ 0 ∷ []) $ done !) known)
-          exits)
+          (exits promised))
 
-  -- The thin call meets its contract, in whatever words, where the covered call meets the same of the record by value.
-  pub meets : {M : Type 1} (𝓤 : URA M) (H : Heap 𝓤) (A : Atoms 𝓤) (W : Given 𝓤 H A) (n : Name) (Says : Promise F ps) (𝓣 : Tables 𝓤 H) (said : Clauses 𝓤 thin-ended) → thin-says 𝓤 Says ≡ said
+  -- The thin call meets its contract where that follows from the promise, and the covered call meets the promise of the record by value.
+  pub meets : {M : Type 1} (𝓤 : URA M) (H : Heap 𝓤) (A : Atoms 𝓤) (W : Given 𝓤 H A) (n : Name) (Says : Promise F ps) (𝓣 : Tables 𝓤 H) (c : Clauses 𝓤 thin-ended) → Promised 𝓤 Says c
       → ((κs : Lfts 3) (qs : Shares 3) (h : Stream) (a : Denots (typesAt (slots ps) κs)) (is : Known ps κs a) → Covered 𝓤 H A W n Says (𝓣 .C) (𝓣 .Λ) (fmOf 𝓤 H (W .laws) 𝓣) κs qs h a is)
-      → Meets 𝓤 H A (thin-ended .signature) (WpFn 𝓤 H (𝓣 .C) (𝓣 .Λ) (shape F (kinds ps) n)) (closing 𝓤 H A thin-ended said)
-  meets 𝓤 H A W n Says 𝓣 said same known =
+      → Meets 𝓤 H A (thin-ended .signature) (WpFn 𝓤 H (𝓣 .C) (𝓣 .Λ) (shape F (kinds ps) n)) (closing 𝓤 H A thin-ended c)
+  meets 𝓤 H A W n Says 𝓣 c promised known =
       let run = WpFn 𝓤 H (𝓣 .C) (𝓣 .Λ) (shape F (kinds ps) n) in
-      worded 𝓤 H A thin-ended run (thin-says 𝓤 Says) said same
-      (spelled 𝓤 H A (thin-ended .signature) (closing 𝓤 H A thin-ended (thin-says 𝓤 Says)) run (λ κs. (ptr-vals, spells ps κs)) (λ κs. (mut-tells (named 0) (κs .0) T.the-row, tells-all ps κs))
+      spelled 𝓤 H A (thin-ended .signature) (closing 𝓤 H A thin-ended c) run (λ κs. (ptr-vals, spells ps κs)) (λ κs. (mut-tells (named 0) (κs .0) T.the-row, tells-all ps κs))
       (λ κs qs bounds a g are.
       let r : Lent = record { lft = κs .0; share = qs .0; block = a .0 .ptr .0; offset = a .0 .ptr .1; name = a .0 .name } in
-      subst (λ (vs : List Val). ent 𝓤 (sep 𝓤 (sep 𝓤 (sep 𝓤 (sem 𝓤 H A (token r)) (toks 𝓤 A 2 (κs .1) (qs .1))) (sem 𝓤 H A (fsep (reference r (now (a .0))) (owns (typesAt (slots ps) κs) (a .1) (spelt ps κs (a .1)))))) (emp 𝓤)) (run (ref-val r ∷ vs) (thin-post 𝓤 H A W n Says (𝓣 .C) (𝓣 .Λ) (fmOf 𝓤 H (W .laws) 𝓣) κs qs (now (a .0)) (a .1) (are .1) r)))
+      let post = thin-post 𝓤 H A W n Says (𝓣 .C) (𝓣 .Λ) (fmOf 𝓤 H (W .laws) 𝓣) κs qs (now (a .0)) (a .1) (are .1) r c g in
+      subst (λ (vs : List Val). ent 𝓤 (sep 𝓤 (sep 𝓤 (sep 𝓤 (sem 𝓤 H A (token r)) (toks 𝓤 A 2 (κs .1) (qs .1))) (sem 𝓤 H A (fsep (reference r (now (a .0))) (owns (typesAt (slots ps) κs) (a .1) (spelt ps κs (a .1)))))) (c κs a .requires g)) (run (ref-val r ∷ vs) post))
       (sym (same-all 𝓤 H A W ps κs (a .1) (are .1)))
-      (lifted 𝓤 H A W n Says (𝓣 .C) (𝓣 .Λ) (fmOf 𝓤 H (W .laws) 𝓣) κs qs (now (a .0)) (a .1) (are .1) r (known κs qs (now (a .0)) (a .1) (are .1)))))
+      (lifted 𝓤 H A W n Says (𝓣 .C) (𝓣 .Λ) (fmOf 𝓤 H (W .laws) 𝓣) κs qs (now (a .0)) (a .1) (are .1) r c g promised (known κs qs (now (a .0)) (a .1) (are .1))))
