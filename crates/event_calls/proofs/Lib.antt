@@ -1,3 +1,4 @@
+-- What the proofs of this crate share.
 pub mod Answers
 pub mod Lent
 pub mod Lifted

@@ -21,11 +21,10 @@ use denote.Ref.{now, ptr-vals, mut-tells}
 use denote.Signature.{Slot, plain, typeAt, typesAt}
 use denote.Steps.{owned, heard, nothing}
 use denote.Struct.Laws as LL
-use denote.Triple.Clauses.{Ended, Clauses, AtExit, closing}
+use denote.Triple.Clauses.{Ended, Clauses, closing}
 use denote.Triple.End.{all, Fins, Outs, outs, lastsOf}
-use denote.Triple.Entry.{Args}
 use denote.Triple.Spec.{Meets}
-use Rattle.walks.specs.Contracts.{spelled}
+use Rattle.walks.specs.Contracts.{Follows, spelled}
 use Rattle.events.specs.declared.Stream.{Stream}
 use Rattle.events.proofs.Stream as T
 use Rattle.events.proofs.Stream.Laws as T′
@@ -86,9 +85,9 @@ module _ (F : Answers) (ps : List Param) where
   abbrev pub thin-ended : Ended
   thin-ended = record { signature = record { lifetimes = 3; outlives = []; params = RefMutOf (0 ∷ []) tt (plain (λ _. T.the-row)) (λ _. tt) ∷ slots ps; result = plain (λ _. F .answer) }; kept = (yes, all yes (slots ps)) }
 
-  -- what is promised in the contract follows
+  -- that its contract follows from the promise
   abbrev pub Promised : {M : Type 1} (𝓤 : URA M) → Promise F ps → Clauses 𝓤 thin-ended → Type 1
-  Promised 𝓤 Says c = (κs : Lfts 3) (a : Args (thin-ended .signature) κs) (g : c κs a .ghost) (e : F .answer .Denot) (z : AtExit thin-ended κs) → Says κs (now (a .0)) (a .1) e (now (z .0)) (z .1) → ent 𝓤 (emp 𝓤) (c κs a .ensures g e z)
+  Promised 𝓤 Says = Follows 𝓤 thin-ended (λ κs a e z. Says κs (now (a .0)) (a .1) e (now (z .0)) (z .1))
 
   module _ {M : Type 1} (𝓤 : URA M) (H : Heap 𝓤) (A : Atoms 𝓤) (W : Given 𝓤 H A) (n : Name) (Says : Promise F ps) (C : Calls 𝓤 H) (Λ : Loops 𝓤 H) (fm : FmC 𝓤 H (W .laws) C) (κs : Lfts 3) (qs : Shares 3) (h : Stream) (a : Denots (typesAt (slots ps) κs)) (is : Known ps κs a) where
     -- the others' tokens, what they own, their last values, and what is promised of these

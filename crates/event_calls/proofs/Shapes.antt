@@ -3,6 +3,7 @@
 use Prim.Native.Nat.{ℕ}
 use mathlib.Core.Path.{refl}
 use mathlib.Core.List.{List, [], _∷_}
+use lib.ListN.{length}
 use mir.Syntax.{Width, named, imm, w16, w32, w64, tyInt}
 use denote.Plain.{UInt, uint-vals, uint-tells, uint-lawful}
 use denote.Builtin.{SliceRefOf, SliceRefMutOf}
@@ -10,7 +11,6 @@ use denote.Ref.{now}
 use denote.Signature.{AllWithin, plain, meetAt}
 use denote.Slice.{slice-vals, shr-slice-tells, mut-slice-tells, shr-slice-lawful}
 use denote.Steps.{only}
-use lib.ListN.{length}
 use denote.Struct.Declared as SD
 use denote.Struct.Laws as LL
 use denote.Struct.Struct.{layout}

@@ -47,8 +47,8 @@ abbrev pub local-a : Lft → NamedLft
 local-a κ = record { mir = erased; lft = κ }
 
 -- the type of a source
-abbrev pub Held : Lfts 1 → RattleType
-Held κs = S.the-row (named-a κs)
+abbrev pub SourceType : Lfts 1 → RattleType
+SourceType κs = S.the-row (named-a κs)
 
 -- the machine values of a slice, a place, a mode and a reader
 abbrev pub slice-val : RefT (List ℕ) → Val
@@ -79,32 +79,32 @@ module _ (κ : Lft) where
   IsBytes s = Is Bytes s (slice-val s ∷ [])
 
   -- a source as a struct: its laws, its machine value, what it owns, and its facts
-  abbrev pub D : Declared
-  D = S.the-type (named-a (κ, tt))
+  abbrev pub source-struct : Declared
+  source-struct = S.the-type (named-a (κ, tt))
 
-  abbrev pub L : LL.Laws D
-  L = S′.the-laws (named-a (κ, tt))
+  abbrev pub source-laws : LL.Laws source-struct
+  source-laws = S′.the-laws (named-a (κ, tt))
 
   abbrev pub source-val : Source → Val
-  source-val d = LL.val D L d
+  source-val d = LL.val source-struct source-laws d
 
   abbrev pub OwnSource : Source → Fml
-  OwnSource d = Held (κ, tt) .own d (source-val d ∷ [])
+  OwnSource d = SourceType (κ, tt) .own d (source-val d ∷ [])
 
   abbrev pub IsSource : Source → Type 0
-  IsSource d = Is (Held (κ, tt)) d (source-val d ∷ [])
+  IsSource d = Is (SourceType (κ, tt)) d (source-val d ∷ [])
 
   -- the facts of a source are those of its bytes and of its reader
   pub is-source : (s : RefT (List ℕ)) (r : Reader) → IsBytes s → IsReader r → IsSource (source-at s r)
   is-source s r b i =
       let parts = LL.owed R.the-type R′.the-laws r _ i in
-      LL.owes D L (source-at s r) (b, (parts .0, (parts .1 .0, tt)))
+      LL.owes source-struct source-laws (source-at s r) (b, (parts .0, (parts .1 .0, tt)))
 
   pub its-bytes : (d : Source) → IsSource d → IsBytes (d .src)
-  its-bytes d i = LL.owed D L d _ i .0
+  its-bytes d i = LL.owed source-struct source-laws d _ i .0
 
   pub its-reader : (d : Source) → IsSource d → IsReader (reader-of d)
-  its-reader d i = LL.owes R.the-type R′.the-laws (reader-of d) (LL.owed D L d _ i .1)
+  its-reader d i = LL.owes R.the-type R′.the-laws (reader-of d) (LL.owed source-struct source-laws d _ i .1)
 
 -- what a reader owns, as a callee's last parameter: it is had for nothing
 abbrev pub OwnReader : Reader → Fml
@@ -125,14 +125,14 @@ module _ {M : Type 1} (𝓤 : URA M) (H : Heap 𝓤) (A : Atoms 𝓤) (W : Given
       qed W (‵ (OwnBytes κ s) ∷ []) ∵
       nothing ! $ owned ! Mode.the-row (Is Mode.the-row) (EL.makes Mode.the-type Mode′.the-plain 𝓤 H A) (r .mode) _ (parts .1 .0) $ fjoin ! $
       owned ! Offset.the-row (Is Offset.the-row) (LL.makes Offset.the-type Offset′.the-plain 𝓤 H A) (r .place) _ (parts .0) $ fjoin ! $ move ! (1 ∷ 0 ∷ []) $ fjoin ! $
-      by ! (own-shut 𝓤 H A W (D κ) (L κ) (s, (r .place, (r .mode, tt))))
+      by ! (own-shut 𝓤 H A W (source-struct κ) (source-laws κ) (s, (r .place, (r .mode, tt))))
 
   -- and what it owns is what its bytes own
   pub bytes-out : (d : Source) → ent 𝓤 (sem 𝓤 H A (OwnSource κ d)) (sem 𝓤 H A (OwnBytes κ (d .src)))
   bytes-out d =
-      let fields : Values (D κ .parts) = (d .src, (d .place, (d .mode, tt))) in
+      let fields : Values (source-struct κ .parts) = (d .src, (d .place, (d .mode, tt))) in
       qed W (‵ (OwnSource κ d) ∷ []) ∵
-      use1 W (given (source-val κ d ∷ [] ≡ source-val κ d ∷ []) (‵ (all-own (D κ .parts) (L κ) fields))) (own-open 𝓤 H A W (D κ) (L κ) fields (source-val κ d)) $ learn ! (λ _. fsplit ! $ keep ! (0 ∷ []) $ done !)
+      use1 W (given (source-val κ d ∷ [] ≡ source-val κ d ∷ []) (‵ (all-own (source-struct κ .parts) (source-laws κ) fields))) (own-open 𝓤 H A W (source-struct κ) (source-laws κ) fields (source-val κ d)) $ learn ! (λ _. fsplit ! $ keep ! (0 ∷ []) $ done !)
 
   -- a covered call is lent the bytes, beside parameters that are had for nothing, and a copy is kept
   pub lends : (q : Share) (s : RefT (List ℕ)) (others : Fml) → ent 𝓤 (emp 𝓤) (sem 𝓤 H A others)

@@ -1,4 +1,4 @@
--- What the walks of this crate share.
+-- What the proofs of this crate share.
 pub mod Held
 pub mod Pair
 pub mod Steps

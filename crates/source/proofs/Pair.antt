@@ -32,7 +32,7 @@ use Rattle.scanner.proofs.Reader.Laws as R′
 use Rattle.source.specs.Sources.{source-at}
 use Rattle.source.proofs.Source as S
 use Rattle.source.proofs.Source.Laws as S′
-use Rattle.source.proofs.Held.{named-a, local-a, D, slice-val, reader-val, source-val, OwnBytes, OwnSource, IsBytes, IsReader, is-source, together}
+use Rattle.source.proofs.Held.{named-a, local-a, source-struct, slice-val, reader-val, source-val, OwnBytes, OwnSource, IsBytes, IsReader, is-source, together}
 
 -- the last statements: the slice is in local i, what the covered call gave in local j, and the source is made in local k
 abbrev paired : ℕ → ℕ → ℕ → Body
@@ -70,7 +70,7 @@ module _ (An : ED.Declared) (AL : LL.FLaws (ED.field An)) (plain : LL.Plain (ED.
     made-laws = (AL, (S′.the-field-laws (named-a (κ, tt)), tt))
 
     abbrev made : Denots (rows (ED.field An ∷ S.the-field (named-a (κ, tt)) ∷ []))
-    made = (An .to a, (D κ .to (source-at s r), tt))
+    made = (An .to a, (source-struct κ .to (source-at s r), tt))
 
     abbrev made-val : Val
     made-val = pair-val a (source-val κ (source-at s r))

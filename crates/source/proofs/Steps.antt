@@ -33,7 +33,7 @@ use Rattle.scanner.proofs.Reader.Laws as R′
 use Rattle.source.specs.declared.Source.{Source}
 use Rattle.source.specs.Sources.{reader-of}
 use Rattle.source.proofs.Source.Laws as S′
-use Rattle.source.proofs.Held.{Held, D, L, slice-val, offset-val, mode-val, reader-val, source-val, OwnBytes, OwnSource, Had, IsSource, its-reader, bytes-out}
+use Rattle.source.proofs.Held.{SourceType, source-struct, source-laws, slice-val, offset-val, mode-val, reader-val, source-val, OwnBytes, OwnSource, Had, IsSource, its-reader, bytes-out}
 
 -- the first statements: the slice goes to local 2, the reader to local 3
 abbrev pub apart : Body → Body
@@ -56,7 +56,7 @@ module _ {M : Type 1} {𝓤 : URA M} {H : Heap 𝓤} {A : Atoms 𝓤} (W : Given
       (i₀ ∷ j₀ ∷ cell (S′.mir (named 0)) l₁ (source-val κ d) ∷ j₁ ∷ room (slice-ty erased imm w8) l₂ ∷ j₂ ∷ room R′.mir l₃ ∷ j₃ ∷ i₄ ∷ j₄ ∷ room Offset′.mir l₅ ∷ j₅ ∷ room Mode′.mir l₆ ∷ Γ)
       (runs C Λ (among e₀ l₁ l₂ l₃ e₄ l₅ l₆ E) (apart then) q)
   takes-apart κ d i = step (λ s.
-      let fields = LL.owed (D κ) (L κ) d _ i in
+      let fields = LL.owed (source-struct κ) (source-laws κ) d _ i in
       assigns ! (of-opd ! (load ! (from ! (fld ! refl (stop !))) (look-in ! 2 (sub ! 0 refl (whole !))))) (from ! (stop !)) (init ! 4 refl (shr-slice-lawful 𝓤 H A W erased κ u8 .typed (d .src) _ (fields .0) .0)) $
       assigns ! (of-opd ! (load ! (from ! (fld ! refl (stop !))) (look-in ! 2 (sub ! 1 refl (whole !))))) (from ! (stop !)) (init ! 10 refl (LL.lawful Offset.the-type Offset′.the-laws 𝓤 H A W .typed (d .place) _ (fields .1 .0) .0)) $
       assigns ! (of-opd ! (load ! (from ! (fld ! refl (stop !))) (look-in ! 2 (sub ! 2 refl (whole !))))) (from ! (stop !)) (init ! 12 refl (EL.lawful Mode.the-type Mode′.the-laws 𝓤 H A W tt .typed (d .mode) _ (fields .1 .1 .0) .0)) $
@@ -65,7 +65,7 @@ module _ {M : Type 1} {𝓤 : URA M} {H : Heap 𝓤} {A : Atoms 𝓤} (W : Given
   module _ (gives : Slot 1) where
     -- such a function, whatever it gives
     abbrev taking : Ended
-    taking = record { signature = record { lifetimes = 1; outlives = []; params = plain Held ∷ []; result = gives }; kept = (yes, tt) }
+    taking = record { signature = record { lifetimes = 1; outlives = []; params = plain SourceType ∷ []; result = gives }; kept = (yes, tt) }
 
     -- it meets its contract where it does so from the token and what the bytes own, at the machine value of the source
     pub takes : (c : Clauses 𝓤 taking) (run : Fun 𝓤)
@@ -73,6 +73,6 @@ module _ {M : Type 1} {𝓤 : URA M} {H : Heap 𝓤} {A : Atoms 𝓤} (W : Given
         → ent 𝓤 (Had 𝓤 H A κ q (d .src)) (run (source-val κ d ∷ []) (tripleOf 𝓤 H A (taking .signature) (closing 𝓤 H A taking c) .post (((κ, tt), (q, tt), tt, (d, tt), (source-val κ d ∷ [], tt)), g))))
         → Meets 𝓤 H A (taking .signature) run (closing 𝓤 H A taking c)
     takes c run walk =
-        spelled 𝓤 H A (taking .signature) (closing 𝓤 H A taking c) run (λ κs. (LL.vals (D (κs .0)) (L (κs .0)), tt)) (λ κs. (LL.tells (D (κs .0)) (L (κs .0)), tt)) (λ κs qs bounds a g are.
+        spelled 𝓤 H A (taking .signature) (closing 𝓤 H A taking c) run (λ κs. (LL.vals (source-struct (κs .0)) (source-laws (κs .0)), tt)) (λ κs. (LL.tells (source-struct (κs .0)) (source-laws (κs .0)), tt)) (λ κs qs bounds a g are.
         qed W ((raw (alive 𝓤 H A (taking .signature) κs qs) ⊛ ‵ (fsep (OwnSource (κs .0) (a .0)) ftrue)) ∷ raw (c κs a .requires g) ∷ []) ∵
         split ! $ move ! (1 ∷ []) $ fsplit ! $ use1 W (‵ (OwnBytes (κs .0) (a .0 .src))) (bytes-out 𝓤 H A W (κs .0) (a .0)) $ keep ! (2 ∷ 0 ∷ []) $ by ! (walk (κs .0) (qs .0) (a .0) g (are .0)))

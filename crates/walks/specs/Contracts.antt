@@ -34,6 +34,10 @@ spelled 𝓤 H A S c run sp tl k y =
     (via 𝓤 (sep 𝓤 (wand 𝓤 R (Q (y .0 .4))) R) (monoL 𝓤 R (said 𝓤 H A S κs (y .0 .1) (sp κs) (tl κs) (y .0 .3) (λ us. wand 𝓤 R (Q us)) (y .0 .4) (λ are. wandI 𝓤 _ R _ (k κs (y .0 .1) (y .0 .2) (y .0 .3) (y .1) are)))) (comm∗ 𝓤 (wand 𝓤 R (Q (y .0 .4))) R))
     (apply∗ 𝓤 R (Q (y .0 .4)))
 
+-- What is known at exit, of the arguments, the result and the last values, gives what a contract ensures.
+abbrev pub Follows : {M : Type 1} (𝓤 : URA M) (T : Ended) → ((κs : Lfts (T .signature .lifetimes)) → Args (T .signature) κs → Res (T .signature) κs → AtExit T κs → Type 0) → Clauses 𝓤 T → Type 1
+Follows 𝓤 T Known c = (κs : Lfts (T .signature .lifetimes)) (a : Args (T .signature) κs) (g : c κs a .ghost) (r : Res (T .signature) κs) (z : AtExit T κs) → Known κs a r z → ent 𝓤 (emp 𝓤) (c κs a .ensures g r z)
+
 module _ {M : Type 1} {𝓤 : URA M} {H : Heap 𝓤} {A : Atoms 𝓤} (W : Given 𝓤 H A) (T : Ended) (c : Clauses 𝓤 T) (y : tripleOf 𝓤 H A (T .signature) (closing 𝓤 H A T c) .Ghost) where
   -- A call has returned u: that is the machine value of some r, its type and its promise say what is known of r, and the tokens are back.
   pub answered : (val : Res (T .signature) (y .0 .0) → Val) → Tells (typeAt (T .signature .result) (y .0 .0)) (Is (typeAt (T .signature .result) (y .0 .0))) (λ r. val r ∷ [])

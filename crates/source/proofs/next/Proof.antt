@@ -32,7 +32,7 @@ use Rattle.source.specs.Sources.{reader-of, source-at, stepped-by}
 use Rattle.source.proofs.ScanGiven as G
 use Rattle.source.proofs.Stepped as P
 use Rattle.source.proofs.Stepped.Laws as P′
-use Rattle.source.proofs.Held.{named-a, D, L, slice-val, reader-val, source-val, OwnBytes, OwnReader, Had, IsSource, its-bytes, its-reader, reader-had, lends}
+use Rattle.source.proofs.Held.{named-a, source-struct, source-laws, slice-val, reader-val, source-val, OwnBytes, OwnReader, Had, IsSource, its-bytes, its-reader, reader-had, lends}
 use Rattle.source.proofs.Steps.{takes-apart, takes}
 use Rattle.source.proofs.Pair.{pairs}
 use Rattle.source.proofs.step as step
@@ -66,7 +66,7 @@ module _ {M : Type 1} (𝓤 : URA M) (H : Heap 𝓤) (A : Atoms 𝓤) (mem : Mem
     walk known i =
         qed W (raw (Had 𝓤 H A κ q (d .src)) ∷ []) ∵ enter ! (𝓣 .C) (𝓣 .Λ) code.function (source-val κ d ∷ []) _ $
         alloc1 ! (λ l₀. alloc1 ! (λ l₁. alloc1 ! (λ l₂. alloc1 ! (λ l₃. alloc1 ! (λ l₄. alloc1 ! (λ l₅. alloc1 ! (λ l₆. alloc1 ! (λ l₇. alloc0 ! $ move ! (14 ∷ 15 ∷ 12 ∷ 13 ∷ 10 ∷ 11 ∷ 8 ∷ 9 ∷ 6 ∷ 7 ∷ 4 ∷ 5 ∷ 2 ∷ 3 ∷ []) $
-        params1 ! $ pass1 ! (init ! 2 refl (LL.lawful (D κ) (L κ) 𝓤 H A W .typed d _ i .0)) $ pass0 ! $ takes-apart W κ d i $
+        params1 ! $ pass1 ! (init ! 2 refl (LL.lawful (source-struct κ) (source-laws κ) 𝓤 H A W .typed d _ i .0)) $ pass0 ! $ takes-apart W κ d i $
         -- [room for _0; …; _1; …; _2; …; _3; …; room for _4; …; _5; …; _6; …; room for _7; …; the token and what the bytes own]
         move ! (16 ∷ []) $ use1 W (raw (Step .pre to) ⊛ ‵ (OwnBytes κ (d .src))) (lends 𝓤 H A W κ q (d .src) (OwnReader (reader-of d)) (reader-had 𝓤 H A W (reader-of d) (its-reader κ d i))) $ split ! $
         calls-at ! (fmOf 𝓤 H (W .laws) 𝓣) Step known to (and-then ! (load ! (from ! (stop !)) (look ! 6 refl)) (and-then ! (load ! (from ! (stop !)) (look ! 8 refl)) (no-more !)))

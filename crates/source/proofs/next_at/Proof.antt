@@ -90,11 +90,11 @@ module _ {M : Type 1} (𝓤 : URA M) (H : Heap 𝓤) (A : Atoms 𝓤) (mem : Mem
         split ! $ move ! (1 ∷ []) $ fsplit ! $ use1 W (‵ (OwnSource κ d)) (together 𝓤 H A W κ s r i) $ keep ! (0 ∷ 3 ∷ 2 ∷ []) $ fjoin ! $ move ! (1 ∷ 0 ∷ []) $ join ! $ nothing ! $ move ! (1 ∷ 0 ∷ []) $ done !
 
     -- what `next` gives, as the type of a local is
-    abbrev N : Declared
-    N = G.the-type (local-a κ)
+    abbrev given-struct : Declared
+    given-struct = G.the-type (local-a κ)
 
-    abbrev NL : LL.Laws N
-    NL = G′.the-laws (local-a κ)
+    abbrev given-laws : LL.Laws given-struct
+    given-laws = G′.the-laws (local-a κ)
 
     walk : Triple 𝓤 (𝓣 .C next-def.name) Next → IsBytes κ s → ent 𝓤 (Thin .pre y) (WpFn 𝓤 H (𝓣 .C) (𝓣 .Λ) code.function (slice-val s ∷ offset-val o ∷ mode-val m ∷ []) (Thin .post y))
     walk known b =
@@ -105,9 +105,9 @@ module _ {M : Type 1} (𝓤 : URA M) (H : Heap 𝓤) (A : Atoms 𝓤) (mem : Mem
         assigns ! (agg ! (and-then ! (load ! (from ! (stop !)) (look ! 8 refl)) (and-then ! (load ! (from ! (stop !)) (look ! 6 refl)) (and-then ! (load ! (from ! (stop !)) (look ! 4 refl)) (no-more !))))) (from ! (stop !))
         (init ! 0 refl (LL.lawful (S.the-type (local-a κ)) (S′.the-laws (local-a κ)) 𝓤 H A W .typed d _ (is-source κ s r b i) .0)) $
         move ! (12 ∷ []) $ use1 W (raw (Next .pre to)) goes $ calls-at ! (fmOf 𝓤 H (W .laws) 𝓣) Next known to (and-then ! (load ! (from ! (stop !)) (look ! 1 refl)) (no-more !))
-        (answered W next.ended (next.clauses 𝓤 H A mem run) to (LL.val N NL) (LL.tells N NL) (λ g. g ≡ next-of d) (λ g z. id⊢ 𝓤 _) (λ g e is. let ia = LL.owed N NL g _ is .0 in
+        (answered W next.ended (next.clauses 𝓤 H A mem run) to (LL.val given-struct given-laws) (LL.tells given-struct given-laws) (λ g. g ≡ next-of d) (λ g z. id⊢ 𝓤 _) (λ g e is. let ia = LL.owed given-struct given-laws g _ is .0 in
         -- [the token; _5; …; room for _4; …; _3; …; _2; …; _1; …; room for _0; …]
-        land ! (from ! (stop !)) (init ! 3 refl (LL.lawful N NL 𝓤 H A W .typed g _ is .0)) $
+        land ! (from ! (stop !)) (init ! 3 refl (LL.lawful given-struct given-laws 𝓤 H A W .typed g _ is .0)) $
         assigns ! (of-opd ! (load ! (from ! (fld ! refl (stop !))) (look-in ! 3 (sub ! 0 refl (whole !))))) (from ! (stop !)) (init ! 11 refl (EL.lawful An.the-type An′.the-laws 𝓤 H A W tt .typed (g .answer) _ ia .0)) $
         returns ! (look ! 11 refl) $ gone ! 11 refl 11 refl $ gone ! 9 refl 9 refl $ gone ! 7 refl 7 refl $ gone ! 5 refl 5 refl $ gone ! 3 refl 3 refl $ gone ! 1 refl 1 refl $ free0 ! $
         owned ! An.the-row (Is An.the-row) (EL.makes An.the-type An′.the-plain 𝓤 H A) (g .answer) _ ia $ move ! (1 ∷ 0 ∷ []) $
