@@ -1,5 +1,5 @@
 // The event stream with its record lent: each call updates that record itself. Thin: the work is done by the crate events on a copy of
-// the record, and what it gives is stored, refused or not. Proved by walks of the code, one for each shape.
+// the record, and what it gives is stored, refused or not. All nine are proved by one walk of the code.
 ghost use mathlib.Core.Path.{_≡_};
 ghost use Rattle.refusals.specs.Calls.{reply};
 ghost use Rattle.event_record.specs.Record.{push-token, push-error, begin as begin-call, end as end-call, end-with-error, bookmark as bookmark-call, truncate as truncate-call, remove-bookmark, pop as pop-call};
