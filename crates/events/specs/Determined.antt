@@ -18,14 +18,14 @@ use Rattle.events.specs.declared.EventGiven.{EventGiven}
 use Rattle.events.specs.Stream.{done-told, position-told, event-told, done-reply, position-reply, event-reply}
 
 -- push_token, push_error, begin, both ends, truncate and remove_bookmark
-abbrev done-read : Answer → DoneAnswer
+abbrev pub done-read : Answer → DoneAnswer
 done-read done = of-done.Done
 done-read none = of-done.Done
 done-read (position p) = of-done.Done
 done-read (event y) = of-done.Done
 done-read (refused n) = of-done.Refused (named n)
 
-done-same : (a : DoneAnswer) → done-read (done-told a) ≡ a
+pub done-same : (a : DoneAnswer) → done-read (done-told a) ≡ a
 done-same of-done.Done = refl
 done-same (of-done.Refused n) = ap of-done.Refused (read-back n)
 

@@ -8,6 +8,7 @@ use libc::STDERR_FILENO;
 use libc::STDIN_FILENO;
 use libc::STDOUT_FILENO;
 use lines::Upto;
+use refusals::DoneAnswer;
 
 // A call by its number and its argument, and the place of its answer.
 enum Asked {
@@ -48,7 +49,7 @@ fn text_room() -> [u8; 600000] {
     [0u8; 600000]
 }
 
-// Room for 1,024 calls: the script, the places of the recorded answers, and the answers, opening's in front.
+// Room for 1,024 calls: the script, the places of the recorded answers, and the answers.
 fn script_room() -> [u32; 2048] {
     [0u32; 2048]
 }
@@ -57,8 +58,8 @@ fn places_room() -> [usize; 1024] {
     [0usize; 1024]
 }
 
-fn answers_room() -> [u32; 4100] {
-    [0u32; 4100]
+fn answers_room() -> [u32; 4096] {
+    [0u32; 4096]
 }
 
 // 4,096 slots.
@@ -152,13 +153,13 @@ fn is_recorded(
     record: &[u8],
     script: &[u32; 2048],
     places: &[usize; 1024],
-    answers: &[u32; 4100],
+    answers: &[u32; 4096],
     call: usize,
 ) -> bool {
     if call > 1023 {
         return false;
     }
-    let at = call * 4 + 4;
+    let at = call * 4;
     is_answer(
         record,
         places[call],
@@ -175,7 +176,7 @@ fn leading(
     record: &[u8],
     script: &[u32; 2048],
     places: &[usize; 1024],
-    answers: &[u32; 4100],
+    answers: &[u32; 4096],
     calls: usize,
 ) -> usize
     ensures { λ r. ⌜ r ≤ calls ⌝ }
@@ -195,13 +196,16 @@ fn is_refusal_2(tag: u32, number: u32) -> bool {
     if tag == 5 { number == 2 } else { false }
 }
 
-// Replays the calls with so many slots: how many answers there are, opening's in front.
-fn replay_in(slots: usize, src: &[u8], script: &[u32], answers: &mut [u32]) -> usize {
+// Replays the calls with so many slots, and says whether it was not refused.
+fn replay_in(slots: usize, src: &[u8], script: &[u32], answers: &mut [u32]) -> bool {
     let mut room = token_room();
     if slots > 4096 {
-        return 0;
+        return false;
     }
-    replay::replay(src, script, &mut room[..slots * 3], answers)
+    match replay::replay(src, script, &mut room[..slots * 3], answers) {
+        DoneAnswer::Done => true,
+        DoneAnswer::Refused(_) => false,
+    }
 }
 
 // How many answers are the recorded ones with so many slots; and whether these are all up to the first refusal 2.
@@ -225,8 +229,7 @@ fn answered_in(
             same: false,
         };
     }
-    let count = replay_in(slots, src, &script[..calls * 2], &mut answers);
-    if count != calls + 1 || answers[0] != 4 {
+    if !replay_in(slots, src, &script[..calls * 2], &mut answers) {
         return InRoom {
             answers: 0,
             same: false,
@@ -241,7 +244,7 @@ fn answered_in(
     }
     InRoom {
         answers: same,
-        same: is_refusal_2(answers[same * 4 + 4], answers[same * 4 + 5]),
+        same: is_refusal_2(answers[same * 4], answers[same * 4 + 1]),
     }
 }
 

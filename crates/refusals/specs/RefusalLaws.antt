@@ -1,8 +1,9 @@
--- A number names one refusal, since the refusal can be read back from it.
+-- A number names one refusal, since the refusal can be read back from it; and 0 names none.
 -- Assumes nothing.
-use Prim.Native.Nat.{ℕ}
+use Prim.Native.Nat.{ℕ, zero, suc, _≤_}
 use mathlib.Core.Path.{_≡_, refl, sym, ap, _∙_}
 use mathlib.Core.Bool.{cond}
+use native.Mathlib.Omega.{arith}
 use lib.Dec.{eqb}
 use Rattle.refusals.specs.declared.Refusal.{Refusal}
 use Rattle.refusals.specs.declared.Refusal.the-variants.{SourceTooLong, WindowFull, TooManyBookmarks, NotLive, EventsFull, NothingOpen, NoSpan, Unbalanced, NotSettled, PastTheEnd, TooDeep, NoRoom, NotAsOpened}
@@ -41,3 +42,10 @@ read-back NotAsOpened = refl
 
 pub number-once : (x y : Refusal) → number-of x ≡ number-of y → x ≡ y
 number-once x y e = sym (read-back x) ∙ ap named e ∙ read-back y
+
+pub number-some : (x : Refusal) → 1 ≤ number-of x
+number-some x = go (number-of x) refl
+  where
+    go : (n : ℕ) → number-of x ≡ n → 1 ≤ n
+    go zero e = let w : x ≡ NotAsOpened = sym (read-back x) ∙ ap named e in absurd (omega (arith, e, ap number-of w))
+    go (suc n) e = omega arith

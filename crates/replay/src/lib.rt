@@ -1,14 +1,14 @@
 // Replays a script of calls through the window's public calls. That its answers are the record's is demand 3 of the code itself.
-ghost use Prim.Native.Nat.{_+_, _*_, _≤_, min};
+ghost use Prim.Native.Nat.{_+_, _*_, _≤_};
 ghost use mathlib.Core.Path.{_≡_};
 ghost use mathlib.Core.List.{[], _∷_};
-ghost use lib.ListN.{length, take};
+ghost use lib.ListN.{length};
 ghost use lib.Seq.{sets};
-ghost use Rattle.token_record.specs.Record.{refused};
 ghost use Rattle.refusals.specs.Refusals.{number-of};
+ghost use Rattle.scripts.specs.Running.{Noted, ran};
+ghost use Rattle.token_record.specs.Record.{reply, refused};
 ghost use Rattle.window.specs.Window.{state, step, token-told, more-told, index-told, done-told};
-ghost use Rattle.replay.specs.Script.{call-of, calls-of, numbers, outcome, replayed};
-ghost use Rattle.replay.specs.Running.{Noted, lent, ran};
+ghost use Rattle.replay.specs.Script.{call-of, numbers, form, lent, replayed};
 use refusals::DoneAnswer;
 use refusals::Refusal;
 use tokens::TokenIndex;
@@ -21,37 +21,27 @@ use window::TokenAnswer;
 use window::TokenGiven;
 use window::Window;
 
-// Opens a window on the source and runs the calls of the script, two numbers each, as long as there are places for their answers, four
-// numbers each. Opening's answer is the first. Answers how many answers were written.
-pub fn replay(src: &[u8], script: &[u32], room: &mut [u32], answers: &mut [u32]) -> usize
-    ensures { λ r. ⌜ outcome r (now (room .exit)) (now (answers .exit)) ≡ replayed (now (src .entry)) (now (script .entry)) (now (room .entry)) (now (answers .entry)) ⌝ }
+// Opens a window on the source and runs the calls of the script, two numbers each; a last odd number is none. Their answers, four
+// numbers each, are written one after the other; the numbers behind them stay. Refused, and nothing written, where the source is over the
+// limit, and where there is no room for all answers.
+pub fn replay(src: &[u8], script: &[u32], room: &mut [u32], answers: &mut [u32]) -> DoneAnswer
+    ensures { λ r. ⌜ reply (done-told r) (lent (now (room .exit)) (now (answers .exit))) ≡ replayed (now (src .entry)) (now (script .entry)) (now (room .entry)) (now (answers .entry)) ⌝ }
 {
-    let places = answers.len() / 4;
-    if places == 0 {
-        return 0;
-    }
     let opened = Window::open(src, room);
     let answer = opened.answer;
-    put_done(answers, 0, answer);
-    match answer {
-        DoneAnswer::Done => {
-            let window = opened.window;
-            let calls = fewer(places - 1, script.len() / 2);
-            run(window, src, script, room, answers, calls);
-            calls + 1
-        }
-        DoneAnswer::Refused(_) => 1,
+    let DoneAnswer::Done = answer else {
+        return answer;
+    };
+    let calls = script.len() / 2;
+    if answers.len() / 4 < calls {
+        return DoneAnswer::Refused(Refusal::NoRoom);
     }
+    let window = opened.window;
+    run(window, src, script, room, answers, calls);
+    answer
 }
 
-// The smaller of two numbers.
-fn fewer(a: usize, b: usize) -> usize
-    ensures { λ r. ⌜ r ≡ min a b ⌝ }
-{
-    if a < b { a } else { b }
-}
-
-// Runs the first calls of a script, and notes their answers behind the first place.
+// Runs the first calls of a script, and notes their answers from the front on; gives the window after them.
 fn run(
     opened: Window,
     src: &[u8],
@@ -59,18 +49,19 @@ fn run(
     room: &mut [u32],
     answers: &mut [u32],
     calls: usize,
-)
-    requires { ⌜ (calls * 2 ≤ length (now script)) × (calls * 4 + 4 ≤ length (now answers)) ⌝ }
-    ensures { λ r. ⌜ lent (now (room .exit)) (now (answers .exit)) ≡ ran (now (src .entry)) 4 (take calls (calls-of (now (script .entry)))) (state opened (now (room .entry))) (now (answers .entry)) ⌝ }
+) -> Window
+    requires { ⌜ (calls * 2 ≤ length (now script)) × (calls * 4 ≤ length (now answers)) ⌝ }
+    ensures { λ r. ⌜ (state r (now (room .exit)), now (answers .exit)) ≡ ran form (step (now (src .entry))) (now (script .entry)) 0 calls (state opened (now (room .entry))) (now (answers .entry)) ⌝ }
 {
     let mut window = opened;
     let mut i = 0;
     while i < calls {
         let op = script[i * 2];
         let arg = script[i * 2 + 1];
-        window = call(window, src, room, answers, i * 4 + 4, op, arg);
+        window = call(window, src, room, answers, i * 4, op, arg);
         i += 1;
     }
+    window
 }
 
 // One call, by its number, and its answer noted at a place; gives the window after it.
@@ -84,7 +75,7 @@ fn call(
     arg: u32,
 ) -> Window
     requires { ⌜ at + 4 ≤ length (now answers) ⌝ }
-    ensures { λ r. ⌜ Noted (step (now (src .entry)) (call-of op arg) (state window (now (room .entry)))) at (now (answers .entry)) r (now (room .exit)) (now (answers .exit)) ⌝ }
+    ensures { λ r. ⌜ Noted form at (step (now (src .entry)) (call-of op arg) (state window (now (room .entry)))) (now (answers .entry)) (state r (now (room .exit))) (now (answers .exit)) ⌝ }
 {
     match op {
         0 => note_token(window.next_token(src, room), answers, at),

@@ -1,5 +1,5 @@
-// Replays scripts at the borders: an over-long source, an empty one, no script, no place for answers, no room; and document 01's case of a
-// rewind. Each case writes how many answers were written, the answers' numbers and the room's; the file stdout has what document 01 says.
+// Replays scripts at the borders: an over-long source, an empty one, no script, just room and too little of it, no slot; and document 01's
+// case of a rewind. Each case writes what replaying answers, the answers' numbers and the room's; the file stdout has what document 01 says.
 use libc::STDOUT_FILENO;
 
 // A source of the most bytes, and one more: the newlines in it are a token each.
@@ -7,67 +7,59 @@ fn bytes() -> [u8; 65536] {
     [10u8; 65536]
 }
 
-// A number behind a space.
-fn write_number(n: u32) {
-    io::write_all(STDOUT_FILENO, b" ");
-    io::print_decimal(STDOUT_FILENO, n as u64);
-}
-
-// The numbers in a line.
-fn write_numbers(numbers: &[u32]) {
-    let mut i = 0;
-    while i < numbers.len() {
-        write_number(numbers[i]);
-        i += 1;
-    }
-    io::write_all(STDOUT_FILENO, b"\n");
-}
-
 // Replays a script, and writes what it comes to under a title.
 fn show(title: &[u8], src: &[u8], script: &[u32], room: &mut [u32], answers: &mut [u32]) {
-    let n = replay::replay(src, script, room, answers);
+    let answer = replay::replay(src, script, room, answers);
     io::write_all(STDOUT_FILENO, title);
     io::write_all(STDOUT_FILENO, b": ");
-    io::print_decimal(STDOUT_FILENO, n as u64);
-    io::write_all(STDOUT_FILENO, b" written\nanswers");
-    write_numbers(answers);
-    io::write_all(STDOUT_FILENO, b"room");
-    write_numbers(room);
+    shown::outcome(answer);
+    shown::line(b"\nanswers", answers);
+    shown::line(b"room", room);
 }
 
-// The script next, index with room for one token and for the answers of opening and two calls, and one number more.
+// The script next, index with room for one token and for the answers of two calls, and one number more.
 fn in_one_slot(title: &[u8], src: &[u8]) {
     let mut room = [7u32; 4];
-    let mut answers = [8u32; 13];
+    let mut answers = [8u32; 9];
     show(title, src, &[0u32, 0, 8, 0], &mut room, &mut answers);
 }
 
-// The same with a place for opening's answer and one call's, with none, and with an odd number as the script.
-fn few_places() {
+// The same with a number too few for the answers.
+fn too_short(title: &[u8], src: &[u8]) {
+    let mut room = [7u32; 3];
+    let mut answers = [8u32; 7];
+    show(title, src, &[0u32, 0, 8, 0], &mut room, &mut answers);
+}
+
+// The same with just room for the answers; and an odd number as the script, whose answer has room.
+fn just_room() {
     let mut room = [7u32; 3];
     let mut answers = [8u32; 8];
     show(
-        b"two places",
+        b"just room",
         b"a",
         &[0u32, 0, 8, 0],
         &mut room,
         &mut answers,
     );
     let mut room = [7u32; 3];
-    let mut answers = [8u32; 3];
-    show(b"no place", b"a", &[0u32, 0], &mut room, &mut answers);
-    let mut room = [7u32; 3];
-    let mut answers = [8u32; 8];
+    let mut answers = [8u32; 4];
     show(b"half a call", b"a", &[0u32; 1], &mut room, &mut answers);
+}
+
+// Nothing lent: no call, and a call.
+fn nothing_lent() {
+    show(b"nothing lent, no call", b"a", &[], &mut [], &mut []);
+    show(b"nothing lent, a call", b"a", &[0u32, 0], &mut [], &mut []);
 }
 
 // No slot: next on a token is refusal 2, and on no token none.
 fn no_slot() {
     let mut room = [7u32; 2];
-    let mut answers = [8u32; 8];
+    let mut answers = [8u32; 4];
     show(b"no slot", b"a", &[0u32, 0], &mut room, &mut answers);
     let mut room = [7u32; 2];
-    let mut answers = [8u32; 8];
+    let mut answers = [8u32; 4];
     show(
         b"no slot, no token",
         b"",
@@ -80,14 +72,15 @@ fn no_slot() {
 // `a b c`: bookmark 0, next twice, bookmark 2, restore 0, remove 0, next, next.
 fn rewind() {
     let mut room = [7u32; 6];
-    let mut answers = [8u32; 36];
+    let mut answers = [8u32; 32];
     let script = [3u32, 0, 0, 0, 0, 0, 3, 0, 4, 0, 5, 0, 0, 0, 0, 0];
     show(b"rewind", b"a b c", &script, &mut room, &mut answers);
 }
 
-// The longest source, and one byte more.
+// The longest source, and one byte more, which is refused before the room is looked at.
 fn limit(text: &[u8]) {
     in_one_slot(b"65536 bytes", text);
+    too_short(b"65536 bytes, too short", text);
     if text.len() == 65536 {
         in_one_slot(b"65535 bytes", &text[1..]);
     }
@@ -97,7 +90,9 @@ fn main() {
     let text = bytes();
     limit(&text);
     in_one_slot(b"empty", b"");
-    few_places();
+    too_short(b"too short", b"a");
+    just_room();
+    nothing_lent();
     no_slot();
     rewind();
 }

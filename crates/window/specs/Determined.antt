@@ -77,7 +77,7 @@ index-once =
     (λ p. ap (λ (a : IndexAnswer). (record { answer = a; window = p .0 .window }, p .1)) (index-same (p .0 .answer)))
 
 -- opening, restore_bookmark, remove_bookmark and the switches
-abbrev done-read : Answer → DoneAnswer
+abbrev pub done-read : Answer → DoneAnswer
 done-read (token x) = of-done.Done
 done-read none = of-done.Done
 done-read (truth b) = of-done.Done
@@ -85,7 +85,7 @@ done-read (index i) = of-done.Done
 done-read done = of-done.Done
 done-read (refused n) = of-done.Refused (named n)
 
-done-same : (a : DoneAnswer) → done-read (done-told a) ≡ a
+pub done-same : (a : DoneAnswer) → done-read (done-told a) ≡ a
 done-same of-done.Done = refl
 done-same (of-done.Refused n) = ap of-done.Refused (read-back n)
 

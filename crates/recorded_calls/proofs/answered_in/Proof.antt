@@ -28,12 +28,6 @@ slice-aggregate-replay-in-2 c = search needs
 replay-in-requires : tie.Need-replay-in-requires
 replay-in-requires c κs = search needs
 
-add-if2 : tie.Need-add-if2
-add-if2 c = search needs
-
-array-read-if3 : tie.Need-array-read-if3
-array-read-if3 c = search needs
-
 returns-2 : tie.Need-returns-2
 returns-2 c = search needs
 
@@ -46,9 +40,6 @@ returns-3 c = search needs
 mul-is-refusal-2 : tie.Need-mul-is-refusal-2
 mul-is-refusal-2 c = search needs
 
-add-is-refusal-2 : tie.Need-add-is-refusal-2
-add-is-refusal-2 c = search needs
-
 mul-is-refusal-2-2 : tie.Need-mul-is-refusal-2-2
 mul-is-refusal-2-2 c = search needs
 
@@ -58,8 +49,8 @@ array-read-is-refusal-2 c = search needs
 mul-is-refusal-2-3 : tie.Need-mul-is-refusal-2-3
 mul-is-refusal-2-3 c = search needs
 
-add-is-refusal-2-2 : tie.Need-add-is-refusal-2-2
-add-is-refusal-2-2 c = search needs
+add-is-refusal-2 : tie.Need-add-is-refusal-2
+add-is-refusal-2 c = search needs
 
 mul-is-refusal-2-4 : tie.Need-mul-is-refusal-2-4
 mul-is-refusal-2-4 c = search needs
@@ -84,17 +75,14 @@ answered-in-spec =
     slice-aggregate-replay-in
     slice-aggregate-replay-in-2
     replay-in-requires
-    add-if2
-    array-read-if3
     returns-2
     leading-requires
     returns-3
     mul-is-refusal-2
-    add-is-refusal-2
     mul-is-refusal-2-2
     array-read-is-refusal-2
     mul-is-refusal-2-3
-    add-is-refusal-2-2
+    add-is-refusal-2
     mul-is-refusal-2-4
     array-read-is-refusal-2-2
     is-refusal-2-requires

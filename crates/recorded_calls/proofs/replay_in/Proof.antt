@@ -25,11 +25,23 @@ slice-aggregate-replay c = sym (length-take-le _ _ (omega (arith, c .before .bef
 replay-requires : tie.Need-replay-requires
 replay-requires c κs = search needs
 
+enum-told : tie.Need-enum-told
+enum-told c = search needs
+
+enum-told-2 : tie.Need-enum-told-2
+enum-told-2 c = search needs
+
 same-length : tie.Need-same-length
 same-length c = search needs
 
 returns-2 : tie.Need-returns-2
 returns-2 c = search needs
+
+same-length-2 : tie.Need-same-length-2
+same-length-2 c = search needs
+
+returns-3 : tie.Need-returns-3
+returns-3 c = search needs
 
 pub replay-in-spec : {M : Type 1} → statement M
 replay-in-spec =
@@ -41,5 +53,9 @@ replay-in-spec =
     array-borrow-prefix-room
     slice-aggregate-replay
     replay-requires
+    enum-told
+    enum-told-2
     same-length
-    returns-2)
+    returns-2
+    same-length-2
+    returns-3)

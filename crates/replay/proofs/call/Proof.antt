@@ -1,8 +1,7 @@
 -- `replay::call` meets its contract: each arm runs the call of its number, and notes what that call gives.
 -- Assumes nothing.
 use borrow.Author.Needs.{needs}
-use Rattle.replay.specs.ScriptLaws.{call-at, call-beyond}
-use Rattle.replay.specs.Running.{noted}
+use Rattle.replay.specs.ReplayLaws.{call-known, call-beyond, note}
 use Rattle.replay.proofs.call.Statement.{statement}
 use Rattle.replay.proofs.call.Tie as tie
 
@@ -72,7 +71,7 @@ returns c =
     let k = t .before .before .before .before in
     let m = k .before .before in
     let a = m .before .before .before .before .args in
-    rw (call-at (a .op) (a .arg) 0 (m .match .keys1)) (noted (k .next-token .ensures) (t .note-token .ensures))
+    rw (call-known (a .op) (a .arg) 0 (m .match .keys1)) (note (k .next-token .ensures) (t .note-token .ensures))
 
 same-length-3 : tie.Need-same-length-3
 same-length-3 c = search needs
@@ -86,7 +85,7 @@ returns-2 c =
     let k = t .before .before .before .before in
     let m = k .before .before in
     let a = m .before .before .before .before .args in
-    rw (call-at (a .op) (a .arg) 1 (m .match .keys2)) (noted (k .peek-token .ensures) (t .note-token2 .ensures))
+    rw (call-known (a .op) (a .arg) 1 (m .match .keys2)) (note (k .peek-token .ensures) (t .note-token2 .ensures))
 
 same-length-5 : tie.Need-same-length-5
 same-length-5 c = search needs
@@ -100,7 +99,7 @@ returns-3 c =
     let k = t .before .before .before .before in
     let m = k .before .before in
     let a = m .before .before .before .before .args in
-    rw (call-at (a .op) (a .arg) 2 (m .match .keys3)) (noted (k .has-more .ensures) (t .note-more .ensures))
+    rw (call-known (a .op) (a .arg) 2 (m .match .keys3)) (note (k .has-more .ensures) (t .note-more .ensures))
 
 same-length-7 : tie.Need-same-length-7
 same-length-7 c = search needs
@@ -114,7 +113,7 @@ returns-4 c =
     let k = t .before .before in
     let m = k .before .before in
     let a = m .before .before .before .before .args in
-    rw (call-at (a .op) (a .arg) 3 (m .match .keys4)) (noted (k .bookmark .ensures) (t .note-index .ensures))
+    rw (call-known (a .op) (a .arg) 3 (m .match .keys4)) (note (k .bookmark .ensures) (t .note-index .ensures))
 
 same-length-9 : tie.Need-same-length-9
 same-length-9 c = search needs
@@ -128,7 +127,7 @@ returns-5 c =
     let k = t .before .before in
     let m = k .before .before in
     let a = m .before .before .before .before .args in
-    rw (call-at (a .op) (a .arg) 4 (m .match .keys5)) (noted (k .restore-bookmark .ensures) (t .note-done .ensures))
+    rw (call-known (a .op) (a .arg) 4 (m .match .keys5)) (note (k .restore-bookmark .ensures) (t .note-done .ensures))
 
 same-length-11 : tie.Need-same-length-11
 same-length-11 c = search needs
@@ -142,7 +141,7 @@ returns-6 c =
     let k = t .before .before in
     let m = k .before .before in
     let a = m .before .before .before .before .args in
-    rw (call-at (a .op) (a .arg) 5 (m .match .keys6)) (noted (k .remove-bookmark .ensures) (t .note-done2 .ensures))
+    rw (call-known (a .op) (a .arg) 5 (m .match .keys6)) (note (k .remove-bookmark .ensures) (t .note-done2 .ensures))
 
 same-length-13 : tie.Need-same-length-13
 same-length-13 c = search needs
@@ -156,7 +155,7 @@ returns-7 c =
     let k = t .before .before in
     let m = k .before .before in
     let a = m .before .before .before .before .args in
-    rw (call-at (a .op) (a .arg) 6 (m .match .keys7)) (noted (k .enter-hex-pattern-mode .ensures) (t .note-done3 .ensures))
+    rw (call-known (a .op) (a .arg) 6 (m .match .keys7)) (note (k .enter-hex-pattern-mode .ensures) (t .note-done3 .ensures))
 
 same-length-15 : tie.Need-same-length-15
 same-length-15 c = search needs
@@ -170,7 +169,7 @@ returns-8 c =
     let k = t .before .before in
     let m = k .before .before in
     let a = m .before .before .before .before .args in
-    rw (call-at (a .op) (a .arg) 7 (m .match .keys8)) (noted (k .enter-hex-jump-mode .ensures) (t .note-done4 .ensures))
+    rw (call-known (a .op) (a .arg) 7 (m .match .keys8)) (note (k .enter-hex-jump-mode .ensures) (t .note-done4 .ensures))
 
 same-length-17 : tie.Need-same-length-17
 same-length-17 c = search needs
@@ -184,7 +183,7 @@ returns-9 c =
     let k = t .before .before in
     let m = k .before .before in
     let a = m .before .before .before .before .args in
-    rw (call-beyond (a .op) (a .arg) (m .match .rest)) (noted (k .current-token-index .ensures) (t .note-index2 .ensures))
+    rw (call-beyond (a .op) (a .arg) (m .match .rest)) (note (k .current-token-index .ensures) (t .note-index2 .ensures))
 
 pub call-spec : {M : Type 1} → statement M
 call-spec =

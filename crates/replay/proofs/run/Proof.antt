@@ -1,23 +1,21 @@
--- `replay::run` meets its contract. The loop's invariant: the calls that are left, run from here on and noted from here on, leave what
--- all calls leave from the start. The measure is the number of calls that are left. Assumes nothing.
-use Prim.Native.Nat.{_≤_, _+_, _-_, _*_}
+-- `replay::run` meets its contract. The loop's invariant: the calls that are left, run from here on, leave what all calls leave from the
+-- start. The measure is the number of calls that are left. Assumes nothing.
+use Prim.Native.Nat.{_≤_, _-_}
 use mathlib.Core.Path.{_≡_, refl, sym, _∙_}
-use native.Mathlib.Nat.{sub-zero}
+use native.Mathlib.Nat.{add-zero, sub-zero}
 use native.Mathlib.Omega.{arith}
 use borrow.Author.Needs.{needs}
-use lib.ListN.{length, take, drop}
-use Rattle.window.specs.Window.{state}
-use Rattle.replay.specs.Script.{calls-of}
-use Rattle.replay.specs.Running.{ran, ran-call, ran-none}
-use Rattle.replay.specs.ScriptLaws.{script-call, script-end}
+use lib.ListN.{length}
+use Rattle.scripts.specs.Running.{ran, ran-call, ran-none}
+use Rattle.window.specs.Window.{state, step}
+use Rattle.replay.specs.Script.{form}
 use Rattle.replay.proofs.run.Statement.{statement}
 use Rattle.replay.proofs.run.Tie as tie
 
 abbrev Inv-loop : tie.InvT-loop
 Inv-loop src script room₀ answers₀ calls window₀ i₀ room answers window i =
     (i ≤ calls) × (length room ≡ length room₀) × (length answers ≡ length answers₀)
-    × (ran src (i * 4 + 4) (take (calls - i) (calls-of (drop (i * 2) script))) (state window room) answers
-    ≡ ran src 4 (take calls (calls-of script)) (state window₀ room₀) answers₀)
+    × (ran form (step src) script i (calls - i) (state window room) answers ≡ ran form (step src) script 0 calls (state window₀ room₀) answers₀)
 
 abbrev μ-loop : tie.MeasureT-loop
 μ-loop src script room₀ answers₀ calls window₀ i₀ room answers window i = calls - i
@@ -49,9 +47,6 @@ shared-slice-read-arg c = search needs
 mul-call : tie.Need-mul-call Inv-loop μ-loop
 mul-call c = search needs
 
-add-call : tie.Need-add-call Inv-loop μ-loop
-add-call c = search needs
-
 call-requires : tie.Need-call-requires Inv-loop μ-loop
 call-requires c κs = search needs
 
@@ -65,16 +60,13 @@ loop-again : tie.Need-loop-again Inv-loop μ-loop
 loop-again c =
     let k = c .before .before .before .before in
     let l = k .before .before .before .before .before .before in
-    let s = l .before .before .before .before .before in
-    let i = l .loop .i in
-    let src = s .args .src .now in
-    let script = s .args .script .now in
-    let e : (i + 1) * 4 + 4 ≡ i * 4 + 4 + 4 = omega arith in
-    let d = script-call i (s .args .calls) script (omega arith) (s .pre .0) in (
+    let s = l .before .before .before .before .before .args in (
       omega arith,
       k .call .kept .1 .1 .0 ∙ l .loop .inv .1,
       k .call .kept .1 .1 .1 .0 ∙ l .loop .inv .2,
-      rw e (ran-call src (i * 4 + 4) _ _ (state (l .loop .window) (l .loop .room)) (k .call .ensures) ∙ (rw d at (l .loop .inv .3))),
+      ran-call form (step (s .src .now)) (s .script .now) (l .loop .i) (s .calls) (state (l .loop .window) (l .loop .room)) (l .loop .answers) (omega arith)
+          (rw add-zero (k .call .ensures))
+          ∙ l .loop .inv .3,
     )
 
 same-length : tie.Need-same-length Inv-loop μ-loop
@@ -86,11 +78,9 @@ same-length-2 c = search needs
 returns : tie.Need-returns Inv-loop μ-loop
 returns c =
     let l = c .before in
-    let s = l .before .before .before .before .before in
-    let i = l .loop .i in
-    let src = s .args .src .now in
-    let e = script-end i (s .args .calls) (calls-of (drop (i * 2) (s .args .script .now))) (omega arith) in
-    sym (ran-none src (i * 4 + 4) (state (l .loop .window) (l .loop .room)) (l .loop .answers)) ∙ (rw e at (l .loop .inv .3))
+    let s = l .before .before .before .before .before .args in
+    sym (ran-none form (step (s .src .now)) (s .script .now) (l .loop .i) (s .calls) (state (l .loop .window) (l .loop .room)) (l .loop .answers) (omega arith))
+    ∙ l .loop .inv .3
 
 pub run-spec : {M : Type 1} → statement M
 run-spec =
@@ -107,7 +97,6 @@ run-spec =
     mul-arg-2
     shared-slice-read-arg
     mul-call
-    add-call
     call-requires
     add-i
     loop-less
