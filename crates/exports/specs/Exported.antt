@@ -2,10 +2,10 @@
 -- Assumes nothing.
 use Prim.Native.Nat.{ℕ, zero, suc}
 use mathlib.Core.Path.{_≡_, refl}
-use mathlib.Core.Bool.{Bool, cond}
+use mathlib.Core.Bool.{Bool}
 use mathlib.Core.List.{List, [], _∷_}
 use lib.ListN.{length, getD}
-use lib.Dec.{leb, ltb}
+use lib.Dec.{ltb}
 use Rattle.refusals.specs.Refusals.{number-of}
 use Rattle.refusals.specs.Calls.{Reply, reply, unless}
 use Rattle.refusals.specs.declared.DoneAnswer.{DoneAnswer}

@@ -98,7 +98,7 @@ unfolding one-token
 ill-formed = refl
 
 -- the smallest sources on which the Rust does otherwise (docs/DIFFERENCES.md): a quote and a blank, two bytes of a character cut off
-apart-from-rust : list-from tables-1 (0x22 ∷ 0x20 ∷ []) 0 Normal ∷ list-from tables-1 (0xE2 ∷ 0x80 ∷ []) 0 Normal ∷ []
+apart-from-rust : list-from tables-1 (0x22 ∷ 0x09 ∷ []) 0 Normal ∷ list-from tables-1 (0xE2 ∷ 0x80 ∷ []) 0 Normal ∷ []
     ≡ listing (token 82 0 1 ∷ token 78 1 2 ∷ []) Normal ∷ listing (token 81 0 1 ∷ token 81 1 2 ∷ []) Normal ∷ []
 unfolding list-from
 apart-from-rust = refl
