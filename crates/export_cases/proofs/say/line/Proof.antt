@@ -1,10 +1,10 @@
--- `shown::line` is safe and ends: each turn goes on by one.
+-- `export_cases::say::line` is safe and ends: each turn goes on by one.
 -- Assumes nothing.
 use Prim.Native.Nat.{_-_, _≤_}
 use borrow.Author.Needs.{needs}
 use lib.ListN.{length}
-use Rattle.shown.proofs.line.Statement.{statement}
-use Rattle.shown.proofs.line.Tie as tie
+use Rattle.export_cases.proofs.say.line.Statement.{statement}
+use Rattle.export_cases.proofs.say.line.Tie as tie
 
 abbrev Inv-loop : tie.InvT-loop
 Inv-loop word numbers i₀ t4 i = i ≤ length numbers
@@ -12,8 +12,8 @@ Inv-loop word numbers i₀ t4 i = i ≤ length numbers
 abbrev μ-loop : tie.MeasureT-loop
 μ-loop word numbers i₀ t4 i = length numbers - i
 
-write-all-requires : tie.Need-write-all-requires Inv-loop μ-loop
-write-all-requires c κs = search needs
+text-requires : tie.Need-text-requires Inv-loop μ-loop
+text-requires c κs = search needs
 
 loop-holds : tie.Need-loop-holds Inv-loop μ-loop
 loop-holds c = search needs
@@ -39,11 +39,11 @@ loop-less c = search needs
 loop-again : tie.Need-loop-again Inv-loop μ-loop
 loop-again c = search needs
 
-slice-aggregate-write-all : tie.Need-slice-aggregate-write-all Inv-loop μ-loop
-slice-aggregate-write-all c = search needs
+slice-aggregate-text : tie.Need-slice-aggregate-text Inv-loop μ-loop
+slice-aggregate-text c = search needs
 
-write-all-requires-2 : tie.Need-write-all-requires-2 Inv-loop μ-loop
-write-all-requires-2 c κs = search needs
+text-requires-2 : tie.Need-text-requires-2 Inv-loop μ-loop
+text-requires-2 c κs = search needs
 
 returns : tie.Need-returns Inv-loop μ-loop
 returns c = search needs
@@ -54,7 +54,7 @@ line-spec =
     (tie.spec
     Inv-loop
     μ-loop
-    write-all-requires
+    text-requires
     loop-holds
     mul-wide
     shared-slice-read-wide
@@ -63,6 +63,6 @@ line-spec =
     add-i
     loop-less
     loop-again
-    slice-aggregate-write-all
-    write-all-requires-2
+    slice-aggregate-text
+    text-requires-2
     returns)

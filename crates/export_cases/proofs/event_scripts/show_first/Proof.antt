@@ -1,11 +1,11 @@
--- `event_replay_cases::show_first` is safe: the array has so many numbers.
+-- `export_cases::event_scripts::show_first` is safe: the array has so many numbers.
 -- Assumes nothing.
 use mathlib.Core.Path.{sym}
 use native.Mathlib.Omega.{arith}
 use borrow.Author.Needs.{needs}
 use lib.Seq.{length-take-le}
-use Rattle.event_replay_cases.proofs.show_first.Statement.{statement}
-use Rattle.event_replay_cases.proofs.show_first.Tie as tie
+use Rattle.export_cases.proofs.event_scripts.show_first.Statement.{statement}
+use Rattle.export_cases.proofs.event_scripts.show_first.Tie as tie
 
 array-share-prefix-numbers : tie.Need-array-share-prefix-numbers
 array-share-prefix-numbers c = search needs

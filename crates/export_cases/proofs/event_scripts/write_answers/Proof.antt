@@ -1,10 +1,10 @@
--- `event_replay_cases::write_answers` is safe and ends: each turn goes on by five numbers that are there.
+-- `export_cases::event_scripts::write_answers` is safe and ends: each turn goes on by five numbers that are there.
 -- Assumes nothing.
 use Prim.Native.Nat.{_-_, _≤_}
 use borrow.Author.Needs.{needs}
 use lib.ListN.{length}
-use Rattle.event_replay_cases.proofs.write_answers.Statement.{statement}
-use Rattle.event_replay_cases.proofs.write_answers.Tie as tie
+use Rattle.export_cases.proofs.event_scripts.write_answers.Statement.{statement}
+use Rattle.export_cases.proofs.event_scripts.write_answers.Tie as tie
 
 abbrev Inv-loop : tie.InvT-loop
 Inv-loop answers at₀ t3 t4 at = at ≤ length answers

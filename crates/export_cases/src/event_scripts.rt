@@ -1,7 +1,5 @@
-// Replays scripts of the event stream at the borders: no call, no slot, no place, just room for the answers and too little of it, numbers
-// left over, unknown calls, large kinds; and each kind of answer. Each case writes what replaying answers, a line for each answer, and both
-// rooms; the file stdout has what document 01 says.
-use libc::STDOUT_FILENO;
+// rattle_events at its borders, with each kind of answer.
+use crate::say;
 
 // The numbers of the calls.
 const TOKEN: u32 = 0;
@@ -57,10 +55,10 @@ impl Script {
 fn write_answers(answers: &[usize]) {
     let mut at = 0;
     while at + 5 <= answers.len() {
-        shown::long_line(b"answer", &answers[at..at + 5]);
+        say::long_line(b"answer", &answers[at..at + 5]);
         at += 5;
     }
-    shown::long_line(b"behind", &answers[at..]);
+    say::long_line(b"behind", &answers[at..]);
 }
 
 // Replays a script, and writes what it comes to under a title.
@@ -71,14 +69,12 @@ fn show(
     opens: &mut [usize],
     answers: &mut [usize],
 ) {
-    let answer = event_replay::replay(numbers, room, opens, answers);
-    io::write_all(STDOUT_FILENO, title);
-    io::write_all(STDOUT_FILENO, b": ");
-    shown::outcome(answer);
-    io::write_all(STDOUT_FILENO, b"\n");
+    let answer = exports::rattle_events(numbers, room, opens, answers);
+    say::answer(title, answer);
+    say::text(b"\n");
     write_answers(answers);
-    shown::line(b"room", room);
-    shown::long_line(b"places", opens);
+    say::line(b"room", room);
+    say::long_line(b"places", opens);
 }
 
 // The same of the first numbers of an array.
@@ -227,7 +223,8 @@ fn failed_nodes() {
     show_all(b"failed nodes", calls, &mut room, &mut opens, &mut answers);
 }
 
-fn main() {
+// No call, no slot, no place, too little room for the answers and just enough, large numbers, each answer, failed nodes.
+pub(crate) fn borders() {
     no_call();
     no_slot();
     no_place();

@@ -1,20 +1,12 @@
-// Replays scripts at the borders: an over-long source, an empty one, no script, just room and too little of it, no slot; and document 01's
-// case of a rewind. Each case writes what replaying answers, the answers' numbers and the room's; the file stdout has what document 01 says.
-use libc::STDOUT_FILENO;
-
-// A source of the most bytes, and one more: the newlines in it are a token each.
-fn bytes() -> [u8; 65536] {
-    [10u8; 65536]
-}
+// rattle_window at its borders, and document 01's case of a rewind.
+use crate::say;
 
 // Replays a script, and writes what it comes to under a title.
 fn show(title: &[u8], src: &[u8], script: &[u32], room: &mut [u32], answers: &mut [u32]) {
-    let answer = replay::replay(src, script, room, answers);
-    io::write_all(STDOUT_FILENO, title);
-    io::write_all(STDOUT_FILENO, b": ");
-    shown::outcome(answer);
-    shown::line(b"\nanswers", answers);
-    shown::line(b"room", room);
+    let answer = exports::rattle_window(src, script, room, answers);
+    say::answer(title, answer);
+    say::line(b"\nanswers", answers);
+    say::line(b"room", room);
 }
 
 // The script next, index with room for one token and for the answers of two calls, and one number more.
@@ -78,7 +70,7 @@ fn rewind() {
 }
 
 // The longest source, and one byte more, which is refused before the room is looked at.
-fn limit(text: &[u8]) {
+pub(crate) fn limit(text: &[u8]) {
     in_one_slot(b"65536 bytes", text);
     too_short(b"65536 bytes, too short", text);
     if text.len() == 65536 {
@@ -86,9 +78,8 @@ fn limit(text: &[u8]) {
     }
 }
 
-fn main() {
-    let text = bytes();
-    limit(&text);
+// An empty source, room for the answers that is too short, just enough or none, half a call, no slot, and a rewind.
+pub(crate) fn borders() {
     in_one_slot(b"empty", b"");
     too_short(b"too short", b"a");
     just_room();
