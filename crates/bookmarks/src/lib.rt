@@ -10,8 +10,11 @@ use tokens::TokenIndex;
 // How many bookmarks there can be.
 pub const BOOKMARKS: usize = 64;
 
+// The places of the bookmarks.
+pub type Bookmarks = [TokenIndex; BOOKMARKS];
+
 // Whether the live ones are in order, none of them above `top`, and the other places 0.
-pub fn is_sound(bookmarks: [TokenIndex; 64], live: u32, top: TokenIndex) -> bool
+pub fn is_sound(bookmarks: Bookmarks, live: u32, top: TokenIndex) -> bool
     ensures { λ r. ⌜ r ≡ held live (top .0) bookmarks ⌝ }
 {
     if BOOKMARKS < live as usize {
@@ -25,7 +28,7 @@ pub fn is_sound(bookmarks: [TokenIndex; 64], live: u32, top: TokenIndex) -> bool
 }
 
 // Whether the live ones are in order and at most `top`.
-fn is_in_order(bookmarks: [TokenIndex; 64], live: u32, top: TokenIndex) -> bool
+fn is_in_order(bookmarks: Bookmarks, live: u32, top: TokenIndex) -> bool
     requires { ⌜ live ≤ 64 ⌝ }
     ensures { λ r. ⌜ r ≡ in-order 0 (top .0) (take live bookmarks) ⌝ }
 {
@@ -43,7 +46,7 @@ fn is_in_order(bookmarks: [TokenIndex; 64], live: u32, top: TokenIndex) -> bool
 }
 
 // Whether all other places are 0.
-fn is_unused(bookmarks: [TokenIndex; 64], live: u32) -> bool
+fn is_unused(bookmarks: Bookmarks, live: u32) -> bool
     requires { ⌜ live ≤ 64 ⌝ }
     ensures { λ r. ⌜ r ≡ unused (drop live bookmarks) ⌝ }
 {
@@ -67,14 +70,14 @@ pub fn low(first: TokenIndex, live: u32, current: TokenIndex) -> TokenIndex
 }
 
 // Whether a bookmark is live.
-pub fn has(bookmarks: [TokenIndex; 64], live: u32, mark: TokenIndex) -> bool
+pub fn has(bookmarks: Bookmarks, live: u32, mark: TokenIndex) -> bool
     ensures { λ r. ⌜ r ≡ member mark (take live bookmarks) ⌝ }
 {
     find(bookmarks, live, mark) < BOOKMARKS
 }
 
 // The bookmarks with one more among the live ones, in order; as they are where all places are in use.
-pub fn insert(bookmarks: [TokenIndex; 64], live: u32, mark: TokenIndex) -> [TokenIndex; 64]
+pub fn insert(bookmarks: Bookmarks, live: u32, mark: TokenIndex) -> Bookmarks
     ensures { λ r. ⌜ r ≡ inserted live mark bookmarks ⌝ }
 {
     let n = live as usize;
@@ -87,7 +90,7 @@ pub fn insert(bookmarks: [TokenIndex; 64], live: u32, mark: TokenIndex) -> [Toke
 }
 
 // The bookmarks without the first live one that equals `mark`; as they are where there is none.
-pub fn remove(bookmarks: [TokenIndex; 64], live: u32, mark: TokenIndex) -> [TokenIndex; 64]
+pub fn remove(bookmarks: Bookmarks, live: u32, mark: TokenIndex) -> Bookmarks
     ensures { λ r. ⌜ r ≡ removed live mark bookmarks ⌝ }
 {
     let at = find(bookmarks, live, mark);
@@ -99,7 +102,7 @@ pub fn remove(bookmarks: [TokenIndex; 64], live: u32, mark: TokenIndex) -> [Toke
 }
 
 // The place of the first live bookmark that equals `mark`, or the number of places.
-fn find(bookmarks: [TokenIndex; 64], live: u32, mark: TokenIndex) -> usize
+fn find(bookmarks: Bookmarks, live: u32, mark: TokenIndex) -> usize
     ensures { λ r. ⌜ r ≡ find-in live mark bookmarks ⌝ }
 {
     let n = live as usize;
@@ -117,7 +120,7 @@ fn find(bookmarks: [TokenIndex; 64], live: u32, mark: TokenIndex) -> usize
 }
 
 // The place of the first of n bookmarks that is above `mark`, or n.
-fn place(bookmarks: [TokenIndex; 64], n: usize, mark: TokenIndex) -> usize
+fn place(bookmarks: Bookmarks, n: usize, mark: TokenIndex) -> usize
     requires { ⌜ n < 64 ⌝ }
     ensures { λ r. ⌜ r ≡ place-of mark (take n bookmarks) ⌝ }
 {
@@ -132,7 +135,7 @@ fn place(bookmarks: [TokenIndex; 64], n: usize, mark: TokenIndex) -> usize
 }
 
 // The bookmarks with `mark` at a place, and those from there up to n one place on.
-fn shift_up(bookmarks: [TokenIndex; 64], at: usize, n: usize, mark: TokenIndex) -> [TokenIndex; 64]
+fn shift_up(bookmarks: Bookmarks, at: usize, n: usize, mark: TokenIndex) -> Bookmarks
     requires { ⌜ (at ≤ n) × (n < 64) ⌝ }
     ensures { λ r. ⌜ r ≡ shifted-up at n mark bookmarks ⌝ }
 {
@@ -150,7 +153,7 @@ fn shift_up(bookmarks: [TokenIndex; 64], at: usize, n: usize, mark: TokenIndex) 
 }
 
 // The bookmarks without the one at a place: those behind it move down, and the last place is 0.
-fn shift_down(bookmarks: [TokenIndex; 64], at: usize) -> [TokenIndex; 64]
+fn shift_down(bookmarks: Bookmarks, at: usize) -> Bookmarks
     requires { ⌜ at < 64 ⌝ }
     ensures { λ r. ⌜ r ≡ shifted-down at bookmarks ⌝ }
 {

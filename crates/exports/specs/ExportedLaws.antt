@@ -108,7 +108,7 @@ module _ (src out : List ℕ) (len : ℕ) where
   listing-so y told e = rw (← e, told)
 
 -- The scripts.
-pub told-refused : {A : Type 0} (done : A) (refused : ℕ → A) (n : ℕ) → 1 ≤ n → told done refused n ≡ refused n
+told-refused : {A : Type 0} (done : A) (refused : ℕ → A) (n : ℕ) → 1 ≤ n → told done refused n ≡ refused n
 told-refused done refused zero h = absurd (omega arith)
 told-refused done refused (suc n) h = refl
 
