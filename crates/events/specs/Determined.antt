@@ -6,7 +6,8 @@ use mathlib.Core.List.{List}
 use Rattle.patterns.specs.Determined.{Once, once}
 use Rattle.refusals.specs.declared.DoneAnswer.{DoneAnswer}
 use Rattle.refusals.specs.declared.DoneAnswer.the-variants as of-done
-use Rattle.refusals.specs.RefusalLaws.{named, read-back}
+use Rattle.refusals.specs.Refusals.{named}
+use Rattle.refusals.specs.RefusalLaws.{read-back}
 use Rattle.event_record.specs.Record.{Answer, done, none, position, event, refused, at}
 use Rattle.events.specs.declared.PositionAnswer.{PositionAnswer}
 use Rattle.events.specs.declared.PositionAnswer.the-variants as of-position

@@ -6,7 +6,7 @@ use mathlib.Core.List.{List}
 use lib.ListN.{length}
 use lib.Dec.{leb}
 use Rattle.tokens.specs.declared.TokenIndex.{TokenIndex}
-use Rattle.refusals.specs.declared.Refusal.the-variants.{WindowFull, NotAsOpened}
+use Rattle.refusals.specs.Refusals.{named}
 use Rattle.scanner.specs.declared.Reader.{Reader}
 use Rattle.scanner.specs.Reading.{sound, Ahead, ahead}
 use Rattle.token_room.specs.Room.{nth, write-all}
@@ -31,5 +31,5 @@ fetched src r room first need spare =
     cond (sound src r && leb (first .0) (r .place .0))
     (cond (leb (length (a .tokens)) spare)
     (outcome (Upto (a .reader) (nth (first .0 + length (a .tokens)))) (write-all room (first .0) (a .tokens)))
-    (outcome (Refused WindowFull) room))
-    (outcome (Refused NotAsOpened) room)
+    (outcome (Refused (named 2)) room))
+    (outcome (Refused (named 24)) room)

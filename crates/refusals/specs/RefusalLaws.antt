@@ -2,28 +2,10 @@
 -- Assumes nothing.
 use Prim.Native.Nat.{ℕ, zero, suc, _≤_}
 use mathlib.Core.Path.{_≡_, refl, sym, ap, _∙_}
-use mathlib.Core.Bool.{cond}
 use native.Mathlib.Omega.{arith}
-use lib.Dec.{eqb}
 use Rattle.refusals.specs.declared.Refusal.{Refusal}
 use Rattle.refusals.specs.declared.Refusal.the-variants.{SourceTooLong, WindowFull, TooManyBookmarks, NotLive, EventsFull, NothingOpen, NoSpan, Unbalanced, NotSettled, PastTheEnd, TooDeep, NoRoom, NotAsOpened}
-use Rattle.refusals.specs.Refusals.{number-of}
-
--- the refusal that a number names; 24 stands for every number that names none
-abbrev pub named : ℕ → Refusal
-named n =
-    cond (eqb n 1) SourceTooLong (
-    cond (eqb n 2) WindowFull (
-    cond (eqb n 3) TooManyBookmarks (
-    cond (eqb n 4) NotLive (
-    cond (eqb n 5) EventsFull (
-    cond (eqb n 6) NothingOpen (
-    cond (eqb n 7) NoSpan (
-    cond (eqb n 8) Unbalanced (
-    cond (eqb n 9) NotSettled (
-    cond (eqb n 10) PastTheEnd (
-    cond (eqb n 11) TooDeep (
-    cond (eqb n 15) NoRoom NotAsOpened)))))))))))
+use Rattle.refusals.specs.Refusals.{number-of, named}
 
 pub read-back : (x : Refusal) → named (number-of x) ≡ x
 read-back SourceTooLong = refl

@@ -5,7 +5,7 @@ use mathlib.Core.Bool.{Bool, cond, _&&_}
 use mathlib.Core.List.{List}
 use lib.ListN.{length}
 use lib.Dec.{leb}
-use Rattle.refusals.specs.declared.Refusal.the-variants.{SourceTooLong, NotAsOpened}
+use Rattle.refusals.specs.Refusals.{named}
 use Rattle.tokens.specs.declared.Mode.{Mode}
 use Rattle.tokens.specs.declared.Mode.the-variants.{Normal}
 use Rattle.tokens.specs.declared.Token.{Token}
@@ -25,7 +25,7 @@ source-limit = 65535
 
 -- Opening: at the start, in normal mode.
 abbrev pub open-of : List ℕ → Opened
-open-of src = cond (leb (length src) source-limit) (opened.Ready (record { place = record { 0 = 0 }; mode = Normal })) (opened.Refused SourceTooLong)
+open-of src = cond (leb (length src) source-limit) (opened.Ready (record { place = record { 0 = 0 }; mode = Normal })) (opened.Refused (named 1))
 
 -- A later call: the source is within the limit, and the place within the source.
 abbrev pub sound : List ℕ → Reader → Bool
@@ -37,7 +37,7 @@ moved scanned.End = answer.End
 moved (scanned.Found x m) = answer.Found x (record { place = x .end; mode = m })
 
 abbrev pub scan-of : List ℕ → Reader → Scan
-scan-of src r = cond (sound src r) (moved (scan tables-1 src (r .place .0) (r .mode))) (answer.Refused NotAsOpened)
+scan-of src r = cond (sound src r) (moved (scan tables-1 src (r .place .0) (r .mode))) (answer.Refused (named 24))
 
 -- A switch acts at the place where the reader is.
 abbrev pub entered : Mode → Reader → Reader

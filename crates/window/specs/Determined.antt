@@ -7,7 +7,8 @@ use mathlib.Core.List.{List}
 use Rattle.patterns.specs.Determined.{Once, once}
 use Rattle.refusals.specs.declared.DoneAnswer.{DoneAnswer}
 use Rattle.refusals.specs.declared.DoneAnswer.the-variants as of-done
-use Rattle.refusals.specs.RefusalLaws.{named, read-back}
+use Rattle.refusals.specs.Refusals.{named}
+use Rattle.refusals.specs.RefusalLaws.{read-back}
 use Rattle.token_record.specs.Record.{Answer, token, none, truth, index, done, refused}
 use Rattle.window.specs.declared.TokenAnswer.{TokenAnswer}
 use Rattle.window.specs.declared.TokenAnswer.the-variants as of-token
