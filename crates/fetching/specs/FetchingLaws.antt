@@ -9,6 +9,7 @@ use lib.ListN.{length}
 use lib.Dec.{leb, ltb}
 use borrow.Author.Tests.{leb-true, le-leb, lt-leb, le-ltb, lt-ltb, ltb-true, ltb-false}
 use Rattle.patterns.specs.Bools.{and-first, and-second}
+use Rattle.patterns.specs.Determined.{Once, once}
 use Rattle.tokens.specs.declared.Token.{Token}
 use Rattle.tokens.specs.declared.TokenIndex.{TokenIndex}
 use Rattle.refusals.specs.declared.Refusal.the-variants.{WindowFull, NotAsOpened}
@@ -19,6 +20,7 @@ use Rattle.scanner.specs.Following.{Sound, Onward, Says, rest, still, ahead-non
 use Rattle.token_room.specs.Room.{nth, write, write-all}
 use Rattle.token_room.specs.RoomLaws.{length-write}
 use Rattle.fetching.specs.declared.Stored.{Stored}
+use Rattle.fetching.specs.declared.Fetched.{Fetched}
 use Rattle.fetching.specs.declared.Fetched.the-variants.{Upto, Refused}
 use Rattle.fetching.specs.Fetching.{outcome, stored, fetched}
 
@@ -156,3 +158,7 @@ module _ (src : List ℕ) (r : Reader) (room : List ℕ) (first : TokenIndex) (n
         → outcome (Upto (s .reader) (s .next)) after ≡ fetched src r room first need spare
     unfolding fetched
     fetched-all q e f = rw (← h, ← q, e, f)
+
+-- two results that meet the contract are equal
+pub fetched-once : Once (λ (p : Fetched × List ℕ). outcome (p .0) (p .1))
+fetched-once = once _ (λ o. (o .answer, o .room)) (λ p. refl)

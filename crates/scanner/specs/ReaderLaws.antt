@@ -1,7 +1,7 @@
 -- The cases of a scan by a reader: refused, at the end, or a token. The tests of 24 come first, and then the definition's scan.
 -- Assumes nothing.
 use Prim.Native.Nat.{ℕ, _≤_, _<_}
-use mathlib.Core.Path.{_≡_, sym, ap, _∙_}
+use mathlib.Core.Path.{_≡_, refl, sym, ap, _∙_}
 use mathlib.Core.List.{List}
 use native.Mathlib.Omega.{arith}
 use lib.ListN.{length, drop}
@@ -13,7 +13,7 @@ use Rattle.tokens.specs.Scan.{tried, choose, found, scan}
 use Rattle.tokens.specs.ScanLaws.{scan-end}
 use Rattle.scanner.specs.declared.Reader.{Reader}
 use Rattle.scanner.specs.declared.Scan.the-variants.{End, Refused}
-use Rattle.scanner.specs.Reading.{source-limit, moved, scan-of}
+use Rattle.scanner.specs.Reading.{source-limit, moved, scan-of, entered}
 use Rattle.scanner.specs.Choosing.{scan-chosen}
 
 module _ (s : List ℕ) (r : Reader) where
@@ -33,3 +33,7 @@ module _ (s : List ℕ) (r : Reader) where
 
     pub token-found : (c : Choice) → r .place .0 < length s → c ≡ choose tables-1 (tried (r .mode)) (drop (r .place .0) s) → moved (found (r .place .0) c) ≡ scan-of s r
     token-found c h e = ap moved (scan-chosen tables-1 s (r .place .0) (r .mode) c h e) ∙ within (omega arith)
+
+-- A switch to the mode already in force does nothing.
+pub entered-same : (r : Reader) → entered (r .mode) r ≡ r
+entered-same r = refl
