@@ -1,9 +1,9 @@
--- `texts::block_comment` meets its contract: it is the comment of bytes (unit).
+-- `comments::block_comment` meets its contract: it is the comment of bytes (unit).
 -- Assumes nothing.
 use borrow.Author.Needs.{needs}
-use Rattle.texts.specs.Comments.{unit}
-use Rattle.texts.proofs.block_comment.Statement.{statement}
-use Rattle.texts.proofs.block_comment.Tie as tie
+use Rattle.comments.specs.Comments.{unit}
+use Rattle.comments.proofs.block_comment.Statement.{statement}
+use Rattle.comments.proofs.block_comment.Tie as tie
 
 block-requires : tie.Need-block-requires
 block-requires c κs = search needs

@@ -1,4 +1,4 @@
--- `texts::line_comment` meets its contract. The loop's invariant: `//` stands at `at`, no LF from behind it to `i`, and a run of bytes
+-- `comments::line_comment` meets its contract. The loop's invariant: `//` stands at `at`, no LF from behind it to `i`, and a run of bytes
 -- without LF is left. The measure is what is left of the source. Assumes nothing.
 use Prim.Native.Nat.{_-_}
 use mathlib.Core.Path.{refl, sym, _∙_}
@@ -10,9 +10,9 @@ use borrow.Author.Tests.{not-true, not-false}
 use Rattle.patterns.specs.Pattern.{byte, star}
 use Rattle.patterns.specs.Walk.{Came, start, step, stop, over, free, prefix-within, text-then, text-yes, text-no}
 use Rattle.tokens.specs.Tokens.{ascii, none-of, line-comment}
-use Rattle.texts.specs.Places.{reads-yes, reads-no, run-reads}
-use Rattle.texts.proofs.line_comment.Statement.{statement}
-use Rattle.texts.proofs.line_comment.Tie as tie
+use Rattle.places.specs.Places.{reads-yes, reads-no, run-reads}
+use Rattle.comments.proofs.line_comment.Statement.{statement}
+use Rattle.comments.proofs.line_comment.Tie as tie
 
 abbrev Inv-loop : tie.InvT-loop
 Inv-loop src at i₀ i = Came line-comment src at (star (byte (none-of "\n"))) i i

@@ -1,4 +1,4 @@
--- `texts::has` meets its contract. The loop's invariant: the first n bytes agree, so that what is left of the text stands where they end
+-- `places::has` meets its contract. The loop's invariant: the first n bytes agree, so that what is left of the text stands where they end
 -- exactly if the text stands at `at`; and the n bytes lie within the source. The measure is what is left of the text. Assumes nothing.
 use Prim.Native.Nat.{ℕ, _+_, _-_, _≤_, _<_}
 use mathlib.Core.Path.{_≡_, sym, _∙_}
@@ -10,8 +10,8 @@ use lib.ListN.{length, getD, drop}
 use borrow.Author.Needs.{needs}
 use borrow.Author.Tests.{eqb-true, eqb-false, not-true, not-false}
 use Rattle.patterns.specs.Walk.{prefix, prefix-done, prefix-short, prefix-no, prefix-yes}
-use Rattle.texts.proofs.has.Statement.{statement}
-use Rattle.texts.proofs.has.Tie as tie
+use Rattle.places.proofs.has.Statement.{statement}
+use Rattle.places.proofs.has.Tie as tie
 
 abbrev Inv-loop : tie.InvT-loop
 Inv-loop src at text n₀ n = (n ≤ length src - at) × (prefix (drop n text) (drop (at + n) src) ≡ prefix text (drop at src))

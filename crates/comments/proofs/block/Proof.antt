@@ -1,4 +1,4 @@
--- `texts::block` meets its contract. The loop's invariant: `/*` stands at `at`, no `*/` from behind it to `i`, and what is left of the
+-- `comments::block` meets its contract. The loop's invariant: `/*` stands at `at`, no `*/` from behind it to `i`, and what is left of the
 -- pattern goes by whether a star stands before `i` (inside). The measure is what is left of the source. Assumes nothing.
 use Prim.Native.Nat.{_+_, _-_, _≤_}
 use mathlib.Core.Path.{_≡_, sym, _∙_}
@@ -12,9 +12,9 @@ use borrow.Author.Tests.{not-true, not-false}
 use Rattle.patterns.specs.Walk.{Came, start, prefix-within, text-then, text-yes, text-no}
 use Rattle.utf8.specs.Runs.{char-within}
 use Rattle.tokens.specs.Tokens.{ascii, block-comment}
-use Rattle.texts.specs.Comments.{unit, inside, comment-over, comment-on, comment-end, comment-char, comment-broken}
-use Rattle.texts.proofs.block.Statement.{statement}
-use Rattle.texts.proofs.block.Tie as tie
+use Rattle.comments.specs.Comments.{unit, inside, comment-over, comment-on, comment-end, comment-char, comment-broken}
+use Rattle.comments.proofs.block.Statement.{statement}
+use Rattle.comments.proofs.block.Tie as tie
 
 abbrev Inv-loop : tie.InvT-loop
 Inv-loop src at chars i₀ star₀ i star = Came (block-comment (unit chars)) src at (inside (unit chars) star) i at
