@@ -1,10 +1,10 @@
--- `lines::byte_of` meets its contract: its two tests are the definition's.
+-- `hex_pairs::byte_of` meets its contract: its two tests are the definition's.
 -- Assumes nothing.
 use native.Mathlib.Omega.{arith}
 use borrow.Author.Needs.{needs}
-use Rattle.lines.specs.HexLaws.{byte-there, no-high, no-low}
-use Rattle.lines.proofs.byte_of.Statement.{statement}
-use Rattle.lines.proofs.byte_of.Tie as tie
+use Rattle.hex_pairs.specs.HexLaws.{byte-there, no-high, no-low}
+use Rattle.hex_pairs.proofs.byte_of.Statement.{statement}
+use Rattle.hex_pairs.proofs.byte_of.Tie as tie
 
 returns : tie.Need-returns
 returns c = let a = c .before .args in no-high (a .high) (a .low) (omega arith)

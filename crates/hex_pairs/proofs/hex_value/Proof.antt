@@ -1,4 +1,4 @@
--- `lines::hex_value` meets its contract: its two tests are the definition's.
+-- `hex_pairs::hex_value` meets its contract: its two tests are the definition's.
 -- Assumes nothing.
 use mathlib.Core.Path.{sym, _∙_}
 use native.Mathlib.Omega.{arith}
@@ -6,10 +6,9 @@ use borrow.Author.Needs.{needs}
 use borrow.Author.Tests.{leb-true}
 use lib.Dec.{leb}
 use Rattle.patterns.specs.Bools.{and-first}
-use Rattle.lines.specs.LineLaws.{digit-least}
-use Rattle.lines.specs.HexLaws.{value-dec, value-letter, value-none}
-use Rattle.lines.proofs.hex_value.Statement.{statement}
-use Rattle.lines.proofs.hex_value.Tie as tie
+use Rattle.hex_pairs.specs.HexLaws.{digit-least, value-dec, value-letter, value-none}
+use Rattle.hex_pairs.proofs.hex_value.Statement.{statement}
+use Rattle.hex_pairs.proofs.hex_value.Tie as tie
 
 is-dec-requires : tie.Need-is-dec-requires
 is-dec-requires c κs = search needs

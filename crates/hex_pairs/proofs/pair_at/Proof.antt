@@ -1,10 +1,10 @@
--- `lines::pair_at` meets its contract: where two bytes are left, they are the front of the rest.
+-- `hex_pairs::pair_at` meets its contract: where two bytes are left, they are the front of the rest.
 -- Assumes nothing.
 use native.Mathlib.Omega.{arith}
-use Rattle.lines.specs.HexLaws.{pair-there, pair-none}
+use Rattle.hex_pairs.specs.HexLaws.{pair-there, pair-none}
 use borrow.Author.Needs.{needs}
-use Rattle.lines.proofs.pair_at.Statement.{statement}
-use Rattle.lines.proofs.pair_at.Tie as tie
+use Rattle.hex_pairs.proofs.pair_at.Statement.{statement}
+use Rattle.hex_pairs.proofs.pair_at.Tie as tie
 
 returns : tie.Need-returns
 returns c = let a = c .before .before .args in pair-none (a .text .now) (a .at) (omega arith)
