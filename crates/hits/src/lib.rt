@@ -158,9 +158,9 @@ pub fn normal(src: &[u8], at: usize) -> Hit
     }
     if b == b'!' {
         let pattern = one(tokens::PATTERN_LENGTH, at, words::word_tail(src, at + 1));
-        return longer(signs::operator(src, at), pattern);
+        return longer(operators::operator(src, at), pattern);
     }
-    signs::operator(src, at)
+    operators::operator(src, at)
 }
 
 // The longest match of pattern mode at a place.

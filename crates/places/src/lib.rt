@@ -1,7 +1,18 @@
-// Whether a text stands at a place of a source.
+// What stands at a place of a source: a byte, a text.
 ghost use mathlib.Core.Path.{_≡_};
 ghost use lib.ListN.{drop};
 ghost use Rattle.patterns.specs.Walk.{prefix};
+ghost use Rattle.places.specs.Signs.{Byte};
+
+// The byte at a place, or 0 past the end.
+pub fn byte_at(src: &[u8], at: usize) -> u8
+    ensures { λ r. ⌜ Byte (now (src .entry)) at r ⌝ }
+{
+    if at < src.len() {
+        return src[at];
+    }
+    0
+}
 
 // Whether `text` stands at `at`.
 pub fn has(src: &[u8], at: usize, text: &[u8]) -> bool

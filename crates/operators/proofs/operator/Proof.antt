@@ -6,9 +6,9 @@ use native.Mathlib.Omega.{arith}
 use borrow.Author.Needs.{needs}
 use borrow.Author.Tests.{ne-eqb}
 use Rattle.tokens.specs.Tokens.{operators}
-use Rattle.signs.specs.Signs.{inside, at-one, at-next, at-two, at-none}
-use Rattle.signs.proofs.operator.Statement.{statement}
-use Rattle.signs.proofs.operator.Tie as tie
+use Rattle.places.specs.Signs.{inside, at-one, at-next, at-two, at-none}
+use Rattle.operators.proofs.operator.Statement.{statement}
+use Rattle.operators.proofs.operator.Tie as tie
 
 pub operator-spec : {M : Type 1} → statement M
 operator-spec =

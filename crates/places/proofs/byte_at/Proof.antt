@@ -3,8 +3,8 @@
 use mathlib.Core.Path.{refl, sym}
 use lib.ListN.{List·getD-eq-default}
 use borrow.Author.Needs.{needs}
-use Rattle.signs.proofs.byte_at.Statement.{statement}
-use Rattle.signs.proofs.byte_at.Tie as tie
+use Rattle.places.proofs.byte_at.Statement.{statement}
+use Rattle.places.proofs.byte_at.Tie as tie
 
 shared-slice-read-result : tie.Need-shared-slice-read-result
 shared-slice-read-result c = search needs
