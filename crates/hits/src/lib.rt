@@ -113,11 +113,8 @@ fn slashed(src: &[u8], at: usize) -> Hit
 fn commented(src: &[u8], at: usize) -> Hit
     ensures { λ r. ⌜ r ≡ best comment-rules (drop at (now (src .entry))) ⌝ }
 {
-    let block = one(
-        tokens::COMMENT,
-        at,
-        comments::block_comment_of_chars(src, at),
-    );
+    let end = comments::block_comment_of_chars(src, at);
+    let block = one(tokens::COMMENT, at, end);
     let line = one(tokens::COMMENT, at, comments::line_comment(src, at));
     longer(block, line)
 }
