@@ -103,9 +103,8 @@ fn show_all(
     show_first(title, numbers, calls.len, room, opens, answers);
 }
 
-// No call: nothing lent; and numbers left over, with room for an answer.
-fn no_call() {
-    show(b"nothing lent", &[], &mut [], &mut [], &mut []);
+// No call: numbers left over, with room for an answer.
+fn half_a_call() {
     let mut room = [7u32; 4];
     let mut opens = [7usize; 1];
     let mut answers = [8usize; 5];
@@ -116,6 +115,12 @@ fn no_call() {
         &mut opens,
         &mut answers,
     );
+}
+
+// No call: nothing lent; and numbers left over.
+fn no_call() {
+    show(b"nothing lent", &[], &mut [], &mut [], &mut []);
+    half_a_call();
 }
 
 // Every call with no slot.
@@ -175,12 +180,9 @@ fn large_numbers() {
     show_all(b"large numbers", calls, &mut room, &mut opens, &mut answers);
 }
 
-// Each kind of answer, and refusals 4 to 11.
-fn each_answer() {
-    let mut room = [7u32; 16];
-    let mut opens = [7usize; 1];
-    let mut answers = [8usize; 125];
-    let calls = Script::new()
+// What is refused with nothing open or live, spans that are none, two nodes in one place, and a bookmark: ten calls.
+fn refused_first() -> Script {
+    Script::new()
         .then(TRUNCATE, 0, 0, 0)
         .then(REMOVE, 0, 0, 0)
         .then(END, 0, 0, 0)
@@ -191,6 +193,11 @@ fn each_answer() {
         .then(BEGIN, 11, 0, 0)
         .then(POP, 0, 0, 0)
         .then(BOOKMARK, 0, 0, 0)
+}
+
+// Behind them positions past the end, a full stream, a node that is closed, what does not balance: ten calls more.
+fn refused_then(before: Script) -> Script {
+    before
         .then(TRUNCATE, 2, 0, 0)
         .then(REMOVE, 2, 0, 0)
         .then(TOKEN, 72, 0, 3)
@@ -201,6 +208,14 @@ fn each_answer() {
         .then(TRUNCATE, 4, 0, 0)
         .then(POP, 0, 0, 0)
         .then(REMOVE, 1, 0, 0)
+}
+
+// Each kind of answer, and refusals 4 to 11.
+fn each_answer() {
+    let mut room = [7u32; 16];
+    let mut opens = [7usize; 1];
+    let mut answers = [8usize; 125];
+    let calls = refused_then(refused_first())
         .then(POP, 0, 0, 0)
         .then(POP, 0, 0, 0)
         .then(POP, 0, 0, 0)

@@ -23,7 +23,7 @@ fn too_short(title: &[u8], src: &[u8]) {
     show(title, src, &[0u32, 0, 8, 0], &mut room, &mut answers);
 }
 
-// The same with just room for the answers; and an odd number as the script, whose answer has room.
+// The same with just room for the answers.
 fn just_room() {
     let mut room = [7u32; 3];
     let mut answers = [8u32; 8];
@@ -34,31 +34,37 @@ fn just_room() {
         &mut room,
         &mut answers,
     );
+}
+
+// A script with no slot, and room for one answer.
+fn in_no_slot(title: &[u8], src: &[u8], script: &[u32]) {
+    let mut room = [7u32; 2];
+    let mut answers = [8u32; 4];
+    show(title, src, script, &mut room, &mut answers);
+}
+
+// An odd number as the script, whose answer has room.
+fn half_a_call() {
     let mut room = [7u32; 3];
     let mut answers = [8u32; 4];
     show(b"half a call", b"a", &[0u32; 1], &mut room, &mut answers);
 }
 
+// A script with nothing lent.
+fn with_nothing(title: &[u8], script: &[u32]) {
+    show(title, b"a", script, &mut [], &mut []);
+}
+
 // Nothing lent: no call, and a call.
 fn nothing_lent() {
-    show(b"nothing lent, no call", b"a", &[], &mut [], &mut []);
-    show(b"nothing lent, a call", b"a", &[0u32, 0], &mut [], &mut []);
+    with_nothing(b"nothing lent, no call", &[]);
+    with_nothing(b"nothing lent, a call", &[0u32, 0]);
 }
 
 // No slot: next on a token is refusal 2, and on no token none.
 fn no_slot() {
-    let mut room = [7u32; 2];
-    let mut answers = [8u32; 4];
-    show(b"no slot", b"a", &[0u32, 0], &mut room, &mut answers);
-    let mut room = [7u32; 2];
-    let mut answers = [8u32; 4];
-    show(
-        b"no slot, no token",
-        b"",
-        &[0u32, 0],
-        &mut room,
-        &mut answers,
-    );
+    in_no_slot(b"no slot", b"a", &[0u32, 0]);
+    in_no_slot(b"no slot, no token", b"", &[0u32, 0]);
 }
 
 // `a b c`: bookmark 0, next twice, bookmark 2, restore 0, remove 0, next, next.
@@ -83,6 +89,7 @@ pub(crate) fn borders() {
     in_one_slot(b"empty", b"");
     too_short(b"too short", b"a");
     just_room();
+    half_a_call();
     nothing_lent();
     no_slot();
     rewind();

@@ -3,13 +3,14 @@
 use Prim.Native.Nat.{ℕ, suc, _<_}
 use mathlib.Core.Path.{_≡_, refl, sym, ap, _∙_}
 use mathlib.Core.Bool.{Bool, true, false, cond, _&&_, _||_, false≢true}
+use mathlib.Core.Logic.{⊎-elim}
 use mathlib.Core.List.{List, [], _∷_, map}
 use lib.ListN.{length, getD, drop}
 use lib.Seq.{drop-cons}
 use lib.Dec.{leb, eqb}
 use Rattle.patterns.specs.Utf8.{Class}
 use Rattle.patterns.specs.Pattern.{Pat, nothing, empty, byte, char, part, seq, alt, star, nullable, is-nothing, deriv, walk, longest}
-use Rattle.patterns.specs.Bools.{and-first, and-second}
+use Rattle.patterns.specs.Bools.{and-first, and-second, or-cases}
 use Rattle.patterns.specs.Walk.{dead}
 use Rattle.patterns.specs.Apart.{each-byte, at-byte}
 use Rattle.tokens.specs.declared.Mode.{Mode}
@@ -31,7 +32,7 @@ only ks (r ∷ rs) = keep (one-of ks (r .kind)) r (only ks rs)
 unfoldable others-dead : List ℕ → List Rule → ℕ → Bool
 unfolding deriv
 others-dead ks [] b = true
-others-dead ks (r ∷ rs) b = (one-of ks (r .kind) || is-nothing (deriv b (r .pattern))) && others-dead ks rs b
+others-dead ks (r ∷ rs) b = (is-nothing (deriv b (r .pattern)) || one-of ks (r .kind)) && others-dead ks rs b
 
 nothing-is : (r : Pat) → is-nothing r ≡ true → r ≡ nothing
 nothing-is nothing e = refl
@@ -55,13 +56,17 @@ narrow : (ks : List ℕ) (rs : List Rule) (b : ℕ) (s : List ℕ) → others-de
 unfolding best others-dead
 narrow ks [] b s e = refl
 narrow ks (r ∷ rs) b s e =
-    go (one-of ks (r .kind)) (and-first (one-of ks (r .kind) || is-nothing (deriv b (r .pattern))) (others-dead ks rs b) e)
-    (narrow ks rs b s (and-second (one-of ks (r .kind) || is-nothing (deriv b (r .pattern))) (others-dead ks rs b) e))
+    go (one-of ks (r .kind)) (and-first (is-nothing (deriv b (r .pattern)) || one-of ks (r .kind)) (others-dead ks rs b) e)
+    (narrow ks rs b s (and-second (is-nothing (deriv b (r .pattern)) || one-of ks (r .kind)) (others-dead ks rs b) e))
   where
-    go : (t : Bool) → (t || is-nothing (deriv b (r .pattern))) ≡ true → best rs (b ∷ s) ≡ best (only ks rs) (b ∷ s)
+    gone : is-nothing (deriv b (r .pattern)) ≡ true → best rs (b ∷ s) ≡ best (only ks rs) (b ∷ s)
+        → better (hit (r .kind) (longest (r .pattern) (b ∷ s))) (best rs (b ∷ s)) ≡ best (only ks rs) (b ∷ s)
+    gone q h = ap (λ (n : ℕ). better (hit (r .kind) n) (best rs (b ∷ s))) (dead-longest (r .pattern) b s q) ∙ h
+
+    go : (t : Bool) → (is-nothing (deriv b (r .pattern)) || t) ≡ true → best rs (b ∷ s) ≡ best (only ks rs) (b ∷ s)
         → better (hit (r .kind) (longest (r .pattern) (b ∷ s))) (best rs (b ∷ s)) ≡ best (keep t r (only ks rs)) (b ∷ s)
     go true q h = ap (better (hit (r .kind) (longest (r .pattern) (b ∷ s)))) h
-    go false q h = ap (λ (n : ℕ). better (hit (r .kind) n) (best rs (b ∷ s))) (dead-longest (r .pattern) b s q) ∙ h
+    go false q h = ⊎-elim (λ y. gone y h) (λ y. absurd (false≢true y)) (or-cases (is-nothing (deriv b (r .pattern))) false q)
 
 -- The kinds that can start with a byte, in the order in which the code tests it.
 

@@ -104,8 +104,8 @@ fn slashed(src: &[u8], at: usize) -> Hit
     ensures { λ r. ⌜ r ≡ best slash-rules (drop at (now (src .entry))) ⌝ }
 {
     let regexp = one(tokens::REGEXP, at, texts::regexp(src, at));
-    let block = one(tokens::COMMENT, at, texts::block_comment(src, at));
-    let line = one(tokens::COMMENT, at, texts::line_comment(src, at));
+    let block = one(tokens::COMMENT, at, comments::block_comment(src, at));
+    let line = one(tokens::COMMENT, at, comments::line_comment(src, at));
     longer(regexp, longer(block, line))
 }
 
@@ -113,8 +113,9 @@ fn slashed(src: &[u8], at: usize) -> Hit
 fn commented(src: &[u8], at: usize) -> Hit
     ensures { λ r. ⌜ r ≡ best comment-rules (drop at (now (src .entry))) ⌝ }
 {
-    let block = one(tokens::COMMENT, at, texts::block_comment_of_chars(src, at));
-    let line = one(tokens::COMMENT, at, texts::line_comment(src, at));
+    let end = comments::block_comment_of_chars(src, at);
+    let block = one(tokens::COMMENT, at, end);
+    let line = one(tokens::COMMENT, at, comments::line_comment(src, at));
     longer(block, line)
 }
 
@@ -154,9 +155,9 @@ pub fn normal(src: &[u8], at: usize) -> Hit
     }
     if b == b'!' {
         let pattern = one(tokens::PATTERN_LENGTH, at, words::word_tail(src, at + 1));
-        return longer(signs::operator(src, at), pattern);
+        return longer(operators::operator(src, at), pattern);
     }
-    signs::operator(src, at)
+    operators::operator(src, at)
 }
 
 // The longest match of pattern mode at a place.

@@ -11,7 +11,7 @@ use lib.Seq.{drop-cons, drop-drop}
 use lib.Dec.{leb}
 use borrow.Author.Tests.{leb-true}
 use Rattle.patterns.specs.Bools.{and-first, and-second}
-use Rattle.patterns.specs.Walk.{span, span-within, prefix, prefix-done, prefix-short, prefix-no, prefix-yes}
+use Rattle.patterns.specs.Walk.{span, span-within, prefix}
 use Rattle.tokens.specs.Tokens.{dec}
 use Rattle.lines.specs.declared.Asked.{Asked}
 use Rattle.lines.specs.declared.Upto.the-variants.{Place, Nowhere}
@@ -52,10 +52,7 @@ module _ (line : List ℕ) (n at : ℕ) where
   unfolding number
   number-over h = rw (drop-of-length-le line h)
 
--- a digit's value is below ten
-pub digit-least : (b : ℕ) → dec b ≡ true → 48 ≤ b
-digit-least b e = leb-true 48 b (and-first (leb 48 b) (leb b 57) e)
-
+-- with `digit-least`, a digit's value is below ten
 pub digit-most : (b : ℕ) → dec b ≡ true → b ≤ 57
 digit-most b e = leb-true b 57 (and-second (leb 48 b) (leb b 57) e)
 
@@ -71,32 +68,12 @@ pub asked-by : (line : List ℕ) {l x y z : ℕ} {p q r : List ℕ} → p ≡ be
 unfolding asked
 asked-by line e f g el ex ey ez = rw (el, ex, ey, ez, g, f, e)
 
--- A comparison: the first i bytes stand at the place, and the rests decide.
-pub record Compared (bytes text : List ℕ) (at i here : ℕ) : Type 0 where
-  pub rest : prefix bytes (drop at text) ≡ prefix (drop i bytes) (drop here text)
-  pub placed : here ≡ at + i
-  pub within : i ≤ length bytes
-
-pub compared-start : (bytes text : List ℕ) (at : ℕ) → Compared bytes text at 0 at
-compared-start bytes text at = record { rest = refl; placed = omega arith; within = omega arith }
-
-module _ {bytes text : List ℕ} {at i here : ℕ} (d : Compared bytes text at i here) where
-  nowhere : false ≡ prefix (drop i bytes) (drop here text) → Nowhere ≡ after-bytes text at bytes
+-- where the bytes stand at the place, the place behind them is one, and where they do not there is none
+module _ (text : List ℕ) (at : ℕ) (bytes : List ℕ) where
+  pub behind-bytes : true ≡ prefix bytes (drop at text) → Place (at + length bytes) ≡ after-bytes text at bytes
   unfolding after-bytes
-  nowhere e = rw (d .rest ∙ sym e)
+  behind-bytes e = rw (sym e)
 
-  pub compared-over : i < length bytes → length text ≤ here → Nowhere ≡ after-bytes text at bytes
-  compared-over h l = nowhere (prefix-short bytes i text here h l)
-
-  pub compared-no : i < length bytes → here < length text → (getD text here 0 ≡ getD bytes i 0 → ⊥) → Nowhere ≡ after-bytes text at bytes
-  compared-no h l e = nowhere (prefix-no bytes i text here h l e)
-
-  pub compared-yes : i < length bytes → here < length text → getD text here 0 ≡ getD bytes i 0 → Compared bytes text at (i + 1) (here + 1)
-  compared-yes h l e =
-      record { rest = d .rest ∙ prefix-yes bytes i text here h l e; placed = omega (arith, d .placed); within = omega arith }
-
-  pub compared-done : length bytes ≤ i → Place here ≡ after-bytes text at bytes
+  pub no-bytes : false ≡ prefix bytes (drop at text) → Nowhere ≡ after-bytes text at bytes
   unfolding after-bytes
-  compared-done h =
-      let e : here ≡ at + length bytes = omega (arith, d .placed, d .within) in
-      rw (d .rest ∙ sym (prefix-done bytes i text here h)) (ap Place e)
+  no-bytes e = rw (sym e)

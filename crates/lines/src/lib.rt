@@ -3,7 +3,7 @@ ghost use Prim.Native.Nat.{min, _≤_};
 ghost use mathlib.Core.Path.{_≡_};
 ghost use lib.ListN.{getD, drop};
 ghost use Rattle.lines.specs.Lines.{next-byte, line-end, behind-space, grown, number, asked, after-bytes};
-ghost use Rattle.lines.specs.Hex.{hex-value, byte-of, pair, Decodes};
+ghost use Rattle.lines.specs.Hex.{Decodes};
 use classes::is_dec;
 
 // What a line asks for: its first letter, 0 where it is empty; and the numbers behind the first three spaces, 0 where there are none.
@@ -76,19 +76,11 @@ pub fn narrow(n: usize) -> u32
 pub fn after_bytes(text: &[u8], at: usize, bytes: &[u8]) -> Upto
     ensures { λ r. ⌜ r ≡ after-bytes (now (text .entry)) at (now (bytes .entry)) ⌝ }
 {
-    let mut here = at;
-    let mut i: usize = 0;
-    while i < bytes.len() {
-        if text.len() <= here {
-            return Upto::Nowhere;
-        }
-        if text[here] != bytes[i] {
-            return Upto::Nowhere;
-        }
-        here += 1;
-        i += 1;
+    if places::has(text, at, bytes) {
+        let behind = at + bytes.len();
+        return Upto::Place(behind);
     }
-    Upto::Place(here)
+    Upto::Nowhere
 }
 
 // Decodes pairs of hexadecimal digits at the place into the front of `out`: as many as there are, and as there is room for.
@@ -98,7 +90,7 @@ pub fn decode(text: &[u8], from: usize, out: &mut [u8]) -> Decoded
     let mut len: usize = 0;
     let mut end = from;
     while len < out.len() {
-        let byte = pair_at(text, end);
+        let byte = hex_pairs::pair_at(text, end);
         if byte > 255 {
             return Decoded { len, end };
         }
@@ -107,45 +99,6 @@ pub fn decode(text: &[u8], from: usize, out: &mut [u8]) -> Decoded
         end += 2;
     }
     Decoded { len, end }
-}
-
-// The byte that two hexadecimal digits at the place spell; 256 where there are none.
-fn pair_at(text: &[u8], at: usize) -> u32
-    ensures { λ r. ⌜ r ≡ pair (drop at (now (text .entry))) ⌝ }
-{
-    if text.len() <= at {
-        return 256;
-    }
-    if text.len() - at < 2 {
-        return 256;
-    }
-    byte_of(hex_value(text[at]), hex_value(text[at + 1]))
-}
-
-// The byte of two digits' values; 256 where one is no digit's.
-fn byte_of(high: u32, low: u32) -> u32
-    ensures { λ r. ⌜ r ≡ byte-of high low ⌝ }
-{
-    if high > 15 {
-        return 256;
-    }
-    if low > 15 {
-        return 256;
-    }
-    high * 16 + low
-}
-
-// The value of a hexadecimal digit; 16 for any other byte.
-fn hex_value(b: u8) -> u32
-    ensures { λ r. ⌜ r ≡ hex-value b ⌝ }
-{
-    if is_dec(b) {
-        return (b - b'0') as u32;
-    }
-    if (b'a' <= b) & (b <= b'f') {
-        return (b - b'a') as u32 + 10;
-    }
-    16
 }
 
 // The first letter.

@@ -11,7 +11,7 @@ use Rattle.patterns.specs.Bools.{and-first, and-second, by-test}
 use Rattle.patterns.specs.Pattern.{Pat, byte, seq, deriv, longest}
 use Rattle.patterns.specs.Walk.{Came, start, move, halt, swap, done}
 use Rattle.tokens.specs.Tokens.{hex-or-mark, hex-byte}
-use Rattle.signs.specs.Signs.{Byte, inside}
+use Rattle.places.specs.Signs.{Byte, inside}
 
 -- One nibble.
 

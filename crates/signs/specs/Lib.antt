@@ -1,3 +1,2 @@
--- Signs: the operators and the newlines, which have one or two bytes (Signs), and the hex bytes (HexByte).
-pub mod Signs
+-- The hex bytes, by two nibbles.
 pub mod HexByte

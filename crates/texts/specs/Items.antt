@@ -14,7 +14,7 @@ use Rattle.patterns.specs.Bools.{and-first, and-second, by-test}
 use Rattle.patterns.specs.Pattern.{Pat, nothing, byte, seq, alt, star, follow, nullable, either, deriv, longest}
 use Rattle.patterns.specs.Walk.{Came, start, step, stop, over, onto, swap, Text, next}
 use Rattle.tokens.specs.Tokens.{one-of, none-of, pair}
-use Rattle.texts.specs.Places.{stands, stands-within, stands-yes, stands-no, takes, lacks, byte-reads, failed}
+use Rattle.places.specs.Places.{stands, stands-within, stands-yes, stands-no, takes, lacks, byte-reads, failed}
 
 abbrev pub items : Class → Pat
 items f = star (alt pair (byte f))

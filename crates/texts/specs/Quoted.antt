@@ -12,7 +12,7 @@ use Rattle.patterns.specs.Utf8.{Class}
 use Rattle.patterns.specs.Pattern.{Pat, seq, literal, row, longest}
 use Rattle.patterns.specs.Walk.{Came, start, prefix, prefix-within, text-alone, text-then, text-yes}
 use Rattle.tokens.specs.Tokens.{ascii, one-of, string, multi-line-string}
-use Rattle.texts.specs.Places.{one-byte}
+use Rattle.places.specs.Places.{one-byte}
 use Rattle.texts.specs.Items.{items, past}
 
 -- The bytes that are items by themselves, where `close` closes the text and LF stands in it only if it may have lines.

@@ -12,7 +12,7 @@ use Rattle.patterns.specs.Utf8.{Class}
 use Rattle.patterns.specs.Pattern.{Pat, nothing, empty, byte, seq, alt, literal, optional, at-most-two, follow, either, if-in, deriv, longest}
 use Rattle.patterns.specs.Walk.{Came, start, stop, swap, prefix, prefix-within}
 use Rattle.tokens.specs.Tokens.{ascii, none-of, letter, pair, regexp}
-use Rattle.texts.specs.Places.{Reads, one-byte, prefix-byte}
+use Rattle.places.specs.Places.{Reads, one-byte, prefix-byte}
 use Rattle.texts.specs.Items.{items}
 use Rattle.texts.specs.Quoted.{plain}
 

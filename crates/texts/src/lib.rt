@@ -1,32 +1,15 @@
-// Strings, regexps and comments: where the one at a place ends.
-use patterns::Front;
+// Strings and regexps: where the one at a place ends.
 ghost use Prim.Native.Nat.{_+_, _<_};
 ghost use mathlib.Core.Path.{_≡_};
 ghost use mathlib.Core.List.{[], _∷_};
 ghost use lib.ListN.{length, getD, drop};
-ghost use Rattle.patterns.specs.Pattern.{byte, char, longest};
+ghost use Rattle.patterns.specs.Pattern.{longest};
 ghost use Rattle.patterns.specs.Walk.{prefix};
-ghost use Rattle.tokens.specs.Tokens.{letter, string, multi-line-string, regexp, block-comment, line-comment};
-ghost use Rattle.texts.specs.Places.{stands};
+ghost use Rattle.tokens.specs.Tokens.{letter, string, multi-line-string, regexp};
+ghost use Rattle.places.specs.Places.{stands};
 ghost use Rattle.texts.specs.Items.{items, pair-at};
 ghost use Rattle.texts.specs.Quoted.{plain, quoted};
 ghost use Rattle.texts.specs.Regexps.{modifiers};
-ghost use Rattle.texts.specs.Comments.{unit};
-
-// Whether `text` stands at `at`.
-fn has(src: &[u8], at: usize, text: &[u8]) -> bool
-    ensures { λ r. ⌜ r ≡ prefix (now (text .entry)) (drop at (now (src .entry))) ⌝ }
-{
-    let mut n = 0;
-    while n < text.len() {
-        let i = at + n;
-        if src.len() <= i || src[i] != text[n] {
-            return false;
-        }
-        n += 1;
-    }
-    true
-}
 
 // Whether the byte `b` stands at `at`.
 fn has_byte(src: &[u8], at: usize, b: u8) -> bool
@@ -79,11 +62,11 @@ fn quoted(src: &[u8], at: usize, quotes: &[u8], lines: bool) -> usize
     requires { ⌜ getD (now quotes) 0 0 ≡ 34 ⌝ }
     ensures { λ r. ⌜ r ≡ at + longest (quoted (now (quotes .entry)) lines) (drop at (now (src .entry))) ⌝ }
 {
-    if !has(src, at, quotes) {
+    if !places::has(src, at, quotes) {
         return at;
     }
     let end = items(src, at + quotes.len(), b'"', lines);
-    if !has(src, end, quotes) {
+    if !places::has(src, end, quotes) {
         return at;
     }
     end + quotes.len()
@@ -143,64 +126,4 @@ pub fn regexp(src: &[u8], at: usize) -> usize
         return at;
     }
     modifiers(src, end + 1)
-}
-
-// The end of the line comment at `at`, or `at` where there is none.
-pub fn line_comment(src: &[u8], at: usize) -> usize
-    ensures { λ r. ⌜ r ≡ at + longest line-comment (drop at (now (src .entry))) ⌝ }
-{
-    if !has(src, at, b"//") {
-        return at;
-    }
-    let mut i = at + 2;
-    while i < src.len() && src[i] != b'\n' {
-        i += 1;
-    }
-    i
-}
-
-// The end of the block comment at `at`, or `at` where there is none. With `chars` it holds well-formed characters only, and else any bytes.
-fn block(src: &[u8], at: usize, chars: bool) -> usize
-    ensures { λ r. ⌜ r ≡ at + longest (block-comment (unit chars)) (drop at (now (src .entry))) ⌝ }
-{
-    if !has(src, at, b"/*") {
-        return at;
-    }
-    let mut i = at + 2;
-    let mut star = false;
-    while i < src.len() {
-        let b = src[i];
-        if chars && 0x80 <= b {
-            match utf8::decode_at(src, i) {
-                Front::Whole(_, n) => {
-                    i += n;
-                    star = false;
-                }
-                Front::Broken => {
-                    return at;
-                }
-            }
-        } else {
-            i += 1;
-            if star && b == b'/' {
-                return i;
-            }
-            star = b == b'*';
-        }
-    }
-    at
-}
-
-// The end of the block comment at `at`, or `at` where there is none.
-pub fn block_comment(src: &[u8], at: usize) -> usize
-    ensures { λ r. ⌜ r ≡ at + longest (block-comment byte) (drop at (now (src .entry))) ⌝ }
-{
-    block(src, at, false)
-}
-
-// The end of the block comment of well-formed characters at `at`, or `at` where there is none.
-pub fn block_comment_of_chars(src: &[u8], at: usize) -> usize
-    ensures { λ r. ⌜ r ≡ at + longest (block-comment char) (drop at (now (src .entry))) ⌝ }
-{
-    block(src, at, true)
 }

@@ -11,7 +11,7 @@ use Rattle.patterns.specs.Lists.{each, members}
 use Rattle.patterns.specs.Pattern.{nullable}
 use Rattle.tokens.specs.declared.Mode.{Mode}
 use Rattle.tokens.specs.declared.Mode.the-variants.{Normal, HexPattern, HexJump}
-use Rattle.tokens.specs.Unicode.{in-runs, digits-16, white}
+use Rattle.tokens.specs.Unicode.{digits-16}
 use Rattle.tokens.specs.Tokens.{ascii, tables-1, letter, dec, oct, hex, word-start, hex-or-mark, blank}
 use Rattle.tokens.specs.Scan.{best, rules, token, listing, list-from}
 
@@ -122,13 +122,7 @@ classes : map (members 256) (dec ∷ oct ∷ hex ∷ hex-or-mark ∷ letter ∷ 
 unfolding members
 classes = refl
 
--- White_Space has 25 characters, the blank run 16: U+0085 and U+3000 are not among these.
-white-space : members 0x3100 white
-    ≡ 0x3000 ∷ 0x205F ∷ 0x202F ∷ 0x2029 ∷ 0x2028 ∷ 0x200A ∷ 0x2009 ∷ 0x2008 ∷ 0x2007 ∷ 0x2006 ∷ 0x2005 ∷ 0x2004 ∷ 0x2003 ∷
-    0x2002 ∷ 0x2001 ∷ 0x2000 ∷ 0x1680 ∷ 0xA0 ∷ 0x85 ∷ 0x20 ∷ 0xD ∷ 0xC ∷ 0xB ∷ 0xA ∷ 0x9 ∷ []
-unfolding members white
-white-space = refl
-
+-- the blank run has 16 characters: U+0085 and U+3000 are not among them
 blank-run : members 0x3100 blank
     ≡ 0x205F ∷ 0x202F ∷ 0x200A ∷ 0x2009 ∷ 0x2008 ∷ 0x2007 ∷ 0x2006 ∷ 0x2005 ∷ 0x2004 ∷ 0x2003 ∷ 0x2002 ∷ 0x2001 ∷ 0x2000 ∷ 0xA0 ∷ 0x20 ∷ 0x9 ∷ []
 unfolding members
@@ -147,13 +141,6 @@ spaced (d ∷ e ∷ ds) = leb (d + 10) e && spaced (e ∷ ds)
 nd-runs : length digits-16 ∷ sum digits-16 ∷ [] ≡ 76 ∷ 3988803 ∷ []
 unfolding sum digits-16
 nd-runs = refl
-
--- a run has ten
-nd-first : members 0x700 (in-runs digits-16)
-    ≡ 0x6F9 ∷ 0x6F8 ∷ 0x6F7 ∷ 0x6F6 ∷ 0x6F5 ∷ 0x6F4 ∷ 0x6F3 ∷ 0x6F2 ∷ 0x6F1 ∷ 0x6F0 ∷
-    0x669 ∷ 0x668 ∷ 0x667 ∷ 0x666 ∷ 0x665 ∷ 0x664 ∷ 0x663 ∷ 0x662 ∷ 0x661 ∷ 0x660 ∷ ascii "9876543210"
-unfolding members digits-16
-nd-first = refl
 
 pub nd-spaced : spaced digits-16 ≡ true
 unfolding digits-16

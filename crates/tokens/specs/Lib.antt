@@ -11,4 +11,3 @@ pub mod BestLaws
 pub mod ScanLaws
 pub mod ListLaws
 pub mod DigitTables
-pub mod Ties

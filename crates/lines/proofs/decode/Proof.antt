@@ -4,8 +4,9 @@ use Prim.Native.Nat.{_-_, _≤_}
 use native.Mathlib.Omega.{arith}
 use lib.ListN.{length, drop}
 use borrow.Author.Needs.{needs}
-use Rattle.lines.specs.Hex.{pair}
-use Rattle.lines.specs.HexLaws.{Decoding, decoding-start, decoding-on, decoding-stops, decoding-over, pair-inside}
+use Rattle.hex_pairs.specs.Hex.{pair}
+use Rattle.hex_pairs.specs.HexLaws.{pair-inside}
+use Rattle.lines.specs.HexLaws.{Decoding, decoding-start, decoding-on, decoding-stops, decoding-over}
 use Rattle.lines.proofs.decode.Statement.{statement}
 use Rattle.lines.proofs.decode.Tie as tie
 

@@ -5,7 +5,8 @@ use mathlib.Core.Path.{_≡_, refl, sym, _∙_}
 use lib.ListN.{length, drop}
 use borrow.Author.Needs.{needs}
 use Rattle.lines.specs.Lines.{number}
-use Rattle.lines.specs.LineLaws.{number-on, number-stops, number-over, digit-least, digit-most}
+use Rattle.hex_pairs.specs.HexLaws.{digit-least}
+use Rattle.lines.specs.LineLaws.{number-on, number-stops, number-over, digit-most}
 use Rattle.lines.proofs.number_at.Statement.{statement}
 use Rattle.lines.proofs.number_at.Tie as tie
 

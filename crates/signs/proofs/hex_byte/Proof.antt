@@ -2,7 +2,7 @@
 -- Assumes nothing.
 use native.Mathlib.Omega.{arith}
 use borrow.Author.Needs.{needs}
-use Rattle.signs.specs.Signs.{inside}
+use Rattle.places.specs.Signs.{inside}
 use Rattle.signs.specs.HexByte.{nibbles-inside, tilde-yes, tilde-no, plain-yes, plain-no}
 use Rattle.signs.proofs.hex_byte.Statement.{statement}
 use Rattle.signs.proofs.hex_byte.Tie as tie

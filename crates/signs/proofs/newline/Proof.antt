@@ -6,7 +6,7 @@ use native.Mathlib.Omega.{arith}
 use borrow.Author.Needs.{needs}
 use borrow.Author.Tests.{ne-eqb}
 use Rattle.tokens.specs.Tokens.{newlines}
-use Rattle.signs.specs.Signs.{inside, at-one, at-next, at-two, at-none}
+use Rattle.places.specs.Signs.{inside, at-one, at-next, at-two, at-none}
 use Rattle.signs.proofs.newline.Statement.{statement}
 use Rattle.signs.proofs.newline.Tie as tie
 

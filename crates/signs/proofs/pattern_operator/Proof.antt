@@ -4,7 +4,7 @@ use mathlib.Core.Path.{refl}
 use mathlib.Core.List.{[], _∷_}
 use borrow.Author.Needs.{needs}
 use Rattle.tokens.specs.Tokens.{pattern-operators}
-use Rattle.signs.specs.Signs.{at-one, at-none}
+use Rattle.places.specs.Signs.{at-one, at-none}
 use Rattle.signs.proofs.pattern_operator.Statement.{statement}
 use Rattle.signs.proofs.pattern_operator.Tie as tie
 

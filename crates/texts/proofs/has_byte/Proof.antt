@@ -6,7 +6,7 @@ use native.Mathlib.Omega.{arith}
 use borrow.Author.Needs.{needs}
 use borrow.Author.Tests.{le-ltb}
 use Rattle.patterns.specs.Walk.{prefix-short}
-use Rattle.texts.specs.Places.{prefix-byte}
+use Rattle.places.specs.Places.{prefix-byte}
 use Rattle.texts.proofs.has_byte.Statement.{statement}
 use Rattle.texts.proofs.has_byte.Tie as tie
 

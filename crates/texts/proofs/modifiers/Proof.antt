@@ -8,7 +8,7 @@ use borrow.Author.Tests.{not-true, not-false}
 use Rattle.patterns.specs.Pattern.{byte, optional}
 use Rattle.patterns.specs.Walk.{Came, start, done}
 use Rattle.tokens.specs.Tokens.{letter}
-use Rattle.texts.specs.Places.{stands-within, takes, lacks}
+use Rattle.places.specs.Places.{stands-within, takes, lacks}
 use Rattle.texts.specs.Regexps.{modifiers, two-reads, one-reads}
 use Rattle.texts.proofs.modifiers.Statement.{statement}
 use Rattle.texts.proofs.modifiers.Tie as tie

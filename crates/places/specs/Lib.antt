@@ -1,0 +1,3 @@
+-- What stands at a place: what contracts cite of it, and its laws.
+pub mod Places
+pub mod Signs

@@ -1,0 +1,3 @@
+-- What takes long to compute of the rules and the Unicode tables.
+pub mod Ties
+pub mod Members
