@@ -1,23 +1,21 @@
 -- What replaying writes: nothing where opening is refused or the answers have no room; else the calls run on the window as it is at the
 -- start, where demand 3 says that they answer as the record does. Assumes nothing.
 use Prim.Native.Nat.{ℕ, _/_, _<_, _≤_}
-use mathlib.Core.Path.{_≡_, ap, _∙_}
+use mathlib.Core.Path.{_≡_, sym, ap, _∙_}
 use mathlib.Core.Bool.{Bool, true, false, cond}
-use mathlib.Core.List.{List}
+use mathlib.Core.List.{List, [], _∷_}
 use native.Mathlib.Omega.{arith}
 use borrow.Author.Tests.{lt-ltb, le-ltb, leb-true, leb-false}
-use lib.ListN.{length, getD}
+use lib.ListN.{length, getD, List·getD-eq-default}
 use lib.Seq.{sets}
 use lib.Dec.{leb}
 use Rattle.patterns.specs.Bools.{by-test}
 use Rattle.patterns.specs.Determined.{Once, once}
-use Rattle.tokens.specs.NoneOf.{NoneOf}
 use Rattle.refusals.specs.declared.DoneAnswer.{DoneAnswer}
 use Rattle.refusals.specs.declared.DoneAnswer.the-variants.{Done, Refused}
 use Rattle.refusals.specs.declared.Refusal.{Refusal}
 use Rattle.scripts.specs.Scripts.{calls-of}
 use Rattle.scripts.specs.Running.{Noted, ran, ran-all}
-use Rattle.scripts.specs.Tables.{below, no-entry}
 use Rattle.scanner.specs.Reading.{source-limit}
 use Rattle.token_record.specs.Record.{current-token-index, Answer, done, refused, Reply, reply}
 use Rattle.window.specs.declared.Window.{Window}
@@ -25,6 +23,8 @@ use Rattle.window.specs.declared.DoneGiven.{DoneGiven}
 use Rattle.window.specs.Window.{State, state, step, start, open-of, done-told, done-reply}
 use Rattle.window.specs.Determined.{done-read, done-same}
 use Rattle.demand3.specs.Simulation.{simulated, room-after}
+use Rattle.replay.specs.declared.Called.{Called}
+use Rattle.replay.specs.declared.Numbers.{Numbers}
 use Rattle.replay.specs.Script.{calls, call-of, numbers, form, lent, replayed}
 
 -- The call of a number.
@@ -32,14 +32,39 @@ pub call-known : (op arg n : ℕ) → op ≡ n → call-of op arg ≡ getD (call
 unfolding call-of
 call-known op arg n e = rw e
 
-pub call-beyond : (op arg : ℕ) → NoneOf (below 8) op → call-of op arg ≡ current-token-index
+pub call-beyond : (op arg : ℕ) → 8 ≤ op → call-of op arg ≡ current-token-index
 unfolding call-of
-call-beyond op arg h = no-entry (calls arg) current-token-index op h
+call-beyond op arg h = List·getD-eq-default (calls arg) current-token-index h
 
--- A call's reply, and the numbers of its answer written.
-pub note : {y : Reply State} {a : Answer} {w r : Window} {room before after : List ℕ} {at : ℕ}
-    → reply a (state w room) ≡ y → (r ≡ w) × (after ≡ sets before at (numbers a)) → Noted form at y before (state r room) after
-note e n = rw (← e) (record { state-after = rw (n .0); answers-after = n .1 })
+-- those from 6 on want no argument
+pub call-plain : (op arg : ℕ) → 6 ≤ op → call-of op arg ≡ call-of op 0
+call-plain op arg h =
+    by-test (leb 8 op)
+    (λ e. let l : 8 ≤ op = leb-true _ _ e in call-beyond op arg l ∙ sym (call-beyond op 0 l))
+    (λ e. let l : op < 8 = leb-false _ _ e in
+    by-test (leb 7 op)
+    (λ e. let k : 7 ≤ op = leb-true _ _ e in let n : op ≡ 7 = omega arith in call-known op arg 7 n ∙ sym (call-known op 0 7 n))
+    (λ e. let k : op < 7 = leb-false _ _ e in let n : op ≡ 6 = omega arith in call-known op arg 6 n ∙ sym (call-known op 0 6 n)))
+
+-- The four numbers of an answer, in order. What a call gives tells an answer and a window; the reply of a call; and noted, what it leaves.
+abbrev pub listed : Numbers → List ℕ
+listed n = n .tag ∷ n .first ∷ n .second ∷ n .third ∷ []
+
+pub record Told (a : Answer) (w : Window) (c : Called) : Type 0 where
+  pub window-after : c .window ≡ w
+  pub answer-told : listed (c .numbers) ≡ numbers a
+
+pub record Gave (y : Reply State) (c : Called) (room : List ℕ) : Type 0 where
+  pub state-after : state (c .window) room ≡ y .after
+  pub answer-told : listed (c .numbers) ≡ numbers (y .answer)
+
+pub gave : {y : Reply State} {a : Answer} {w : Window} {room : List ℕ} {c : Called} → reply a (state w room) ≡ y → Told a w c → Gave y c room
+gave e t = rw (← e) (record { state-after = rw (t .window-after); answer-told = t .answer-told })
+
+pub note : {y : Reply State} {c : Called} {room before after : List ℕ} {at : ℕ}
+    → Gave y c room → after ≡ sets before at (listed (c .numbers)) → Noted form at y before (state (c .window) room) after
+note {before = before} {at = at} g e =
+    record { state-after = g .state-after; answers-after = e ∙ ap (λ (l : List ℕ). sets before at l) (g .answer-told) }
 
 -- How opening answers tells whether the source is within the limit.
 module _ (src room : List ℕ) (g : DoneGiven) (e : done-reply g room ≡ open-of src room) where

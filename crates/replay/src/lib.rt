@@ -1,6 +1,7 @@
 // Replays a script of calls through the window's public calls. That its answers are the record's is demand 3 of the code itself.
-ghost use Prim.Native.Nat.{_+_, _*_, _≤_};
+ghost use Prim.Native.Nat.{_+_, _*_, _≤_, _<_};
 ghost use mathlib.Core.Path.{_≡_};
+ghost use mathlib.Core.Bool.{cond};
 ghost use mathlib.Core.List.{[], _∷_};
 ghost use lib.ListN.{length};
 ghost use lib.Seq.{sets};
@@ -9,6 +10,7 @@ ghost use Rattle.scripts.specs.Running.{Noted, ran};
 ghost use Rattle.token_record.specs.Record.{reply, refused};
 ghost use Rattle.window.specs.Window.{state, step, token-told, more-told, index-told, done-told};
 ghost use Rattle.replay.specs.Script.{call-of, numbers, form, lent, replayed};
+ghost use Rattle.replay.specs.ReplayLaws.{listed, Gave, Told};
 use refusals::DoneAnswer;
 use refusals::Refusal;
 use tokens::TokenIndex;
@@ -20,6 +22,20 @@ use window::MoreGiven;
 use window::TokenAnswer;
 use window::TokenGiven;
 use window::Window;
+
+// What a call gives: the window after it, and its answer as numbers.
+struct Called {
+    window: Window,
+    numbers: Numbers,
+}
+
+// The four numbers of an answer.
+struct Numbers {
+    tag: u32,
+    first: u32,
+    second: u32,
+    third: u32,
+}
 
 // Opens a window on the source and runs the calls of the script, two numbers each; a last odd number is none. Their answers, four
 // numbers each, are written one after the other; the numbers behind them stay. Refused, and nothing written, where the source is over the
@@ -77,141 +93,184 @@ fn call(
     requires { ⌜ at + 4 ≤ length (now answers) ⌝ }
     ensures { λ r. ⌜ Noted form at (step (now (src .entry)) (call-of op arg) (state window (now (room .entry)))) (now (answers .entry)) (state r (now (room .exit))) (now (answers .exit)) ⌝ }
 {
-    match op {
-        0 => note_token(window.next_token(src, room), answers, at),
-        1 => note_token(window.peek_token(src, room, arg as usize), answers, at),
-        2 => note_more(window.has_more(src, room), answers, at),
-        3 => note_index(window.bookmark(src, room), answers, at),
-        4 => note_done(
-            window.restore_bookmark(src, room, TokenIndex(arg)),
-            answers,
-            at,
-        ),
-        5 => note_done(
-            window.remove_bookmark(src, room, TokenIndex(arg)),
-            answers,
-            at,
-        ),
-        6 => note_done(window.enter_hex_pattern_mode(src, room), answers, at),
-        7 => note_done(window.enter_hex_jump_mode(src, room), answers, at),
-        _ => note_index(window.current_token_index(src, room), answers, at),
+    let called = make(window, src, room, op, arg);
+    put(answers, at, called.numbers);
+    called.window
+}
+
+// One call, by its number: of those that read, that keep bookmarks, or the others.
+fn make(window: Window, src: &[u8], room: &mut [u32], op: u32, arg: u32) -> Called
+    ensures { λ r. ⌜ Gave (step (now (src .entry)) (call-of op arg) (state window (now (room .entry)))) r (now (room .exit)) ⌝ }
+{
+    if op < 3 {
+        read(window, src, room, op, arg)
+    } else if op < 6 {
+        mark(window, src, room, op, TokenIndex(arg))
+    } else {
+        other(window, src, room, op)
     }
 }
 
-// Each function `note_..` notes the answer of one kind of call at a place, and gives the window that the call gave.
+// Next, peek or has_more.
+fn read(window: Window, src: &[u8], room: &mut [u32], op: u32, arg: u32) -> Called
+    requires { ⌜ op < 3 ⌝ }
+    ensures { λ r. ⌜ Gave (step (now (src .entry)) (call-of op arg) (state window (now (room .entry)))) r (now (room .exit)) ⌝ }
+{
+    if op == 0 {
+        of_token(window_reading::next_token(window, src, room))
+    } else if op == 1 {
+        of_token(window_reading::peek_token(window, src, room, arg as usize))
+    } else {
+        of_more(window_reading::has_more(window, src, room))
+    }
+}
+
+// Bookmark, restore or remove.
+fn mark(window: Window, src: &[u8], room: &[u32], op: u32, index: TokenIndex) -> Called
+    requires { ⌜ (3 ≤ op) × (op < 6) ⌝ }
+    ensures { λ r. ⌜ Gave (step (now (src .entry)) (call-of op (index .0)) (state window (now (room .entry)))) r (now (room .entry)) ⌝ }
+{
+    if op == 3 {
+        of_index(window_marks::bookmark(window, src, room))
+    } else if op == 4 {
+        of_done(window_marks::restore_bookmark(window, src, room, index))
+    } else {
+        of_done(window_marks::remove_bookmark(window, src, room, index))
+    }
+}
+
+// A switch, or the current index.
+fn other(window: Window, src: &[u8], room: &[u32], op: u32) -> Called
+    requires { ⌜ 6 ≤ op ⌝ }
+    ensures { λ r. ⌜ Gave (step (now (src .entry)) (call-of op 0) (state window (now (room .entry)))) r (now (room .entry)) ⌝ }
+{
+    if op == 6 {
+        of_done(window.enter_hex_pattern_mode(src, room))
+    } else if op == 7 {
+        of_done(window.enter_hex_jump_mode(src, room))
+    } else {
+        of_index(window.current_token_index(src, room))
+    }
+}
+
+// Each function `of_..` tells the answer of one kind of call as numbers, beside the window that the call gave.
 
 // Of next and peek.
-fn note_token(given: TokenGiven, answers: &mut [u32], at: usize) -> Window
-    requires { ⌜ at + 4 ≤ length (now answers) ⌝ }
-    ensures { λ r. ⌜ (r ≡ given .window) × (now (answers .exit) ≡ sets (now (answers .entry)) at (numbers (token-told (given .answer)))) ⌝ }
+fn of_token(given: TokenGiven) -> Called
+    ensures { λ r. ⌜ Told (token-told (given .answer)) (given .window) r ⌝ }
 {
     let answer = given.answer;
-    put_token(answers, at, answer);
+    let numbers = token_numbers(answer);
     let window = given.window;
-    window
+    Called { window, numbers }
 }
 
 // Of has_more.
-fn note_more(given: MoreGiven, answers: &mut [u32], at: usize) -> Window
-    requires { ⌜ at + 4 ≤ length (now answers) ⌝ }
-    ensures { λ r. ⌜ (r ≡ given .window) × (now (answers .exit) ≡ sets (now (answers .entry)) at (numbers (more-told (given .answer)))) ⌝ }
+fn of_more(given: MoreGiven) -> Called
+    ensures { λ r. ⌜ Told (more-told (given .answer)) (given .window) r ⌝ }
 {
     let answer = given.answer;
-    put_more(answers, at, answer);
+    let numbers = more_numbers(answer);
     let window = given.window;
-    window
+    Called { window, numbers }
 }
 
 // Of bookmark and the current index.
-fn note_index(given: IndexGiven, answers: &mut [u32], at: usize) -> Window
-    requires { ⌜ at + 4 ≤ length (now answers) ⌝ }
-    ensures { λ r. ⌜ (r ≡ given .window) × (now (answers .exit) ≡ sets (now (answers .entry)) at (numbers (index-told (given .answer)))) ⌝ }
+fn of_index(given: IndexGiven) -> Called
+    ensures { λ r. ⌜ Told (index-told (given .answer)) (given .window) r ⌝ }
 {
     let answer = given.answer;
-    put_index(answers, at, answer);
+    let numbers = index_numbers(answer);
     let window = given.window;
-    window
+    Called { window, numbers }
 }
 
 // Of restore, remove and the switches.
-fn note_done(given: DoneGiven, answers: &mut [u32], at: usize) -> Window
-    requires { ⌜ at + 4 ≤ length (now answers) ⌝ }
-    ensures { λ r. ⌜ (r ≡ given .window) × (now (answers .exit) ≡ sets (now (answers .entry)) at (numbers (done-told (given .answer)))) ⌝ }
+fn of_done(given: DoneGiven) -> Called
+    ensures { λ r. ⌜ Told (done-told (given .answer)) (given .window) r ⌝ }
 {
     let answer = given.answer;
-    put_done(answers, at, answer);
+    let numbers = done_numbers(answer);
     let window = given.window;
-    window
+    Called { window, numbers }
 }
 
-// Each function `put_..` writes the four numbers of an answer at a place.
+// Each function `.._numbers` gives the four numbers of an answer.
 
 // A token, none, or a refusal.
-fn put_token(answers: &mut [u32], at: usize, answer: TokenAnswer)
-    requires { ⌜ at + 4 ≤ length (now answers) ⌝ }
-    ensures { λ r. ⌜ now (answers .exit) ≡ sets (now (answers .entry)) at (numbers (token-told answer)) ⌝ }
+fn token_numbers(answer: TokenAnswer) -> Numbers
+    ensures { λ r. ⌜ listed r ≡ numbers (token-told answer) ⌝ }
 {
     match answer {
-        TokenAnswer::Token(token) => put(answers, at, 1, token.kind, token.start.0, token.end.0),
-        TokenAnswer::None => put(answers, at, 0, 0, 0, 0),
-        TokenAnswer::Refused(refusal) => put_refused(answers, at, refusal),
+        TokenAnswer::Token(token) => four(1, token.kind, token.start.0, token.end.0),
+        TokenAnswer::None => four(0, 0, 0, 0),
+        TokenAnswer::Refused(refusal) => refused_numbers(refusal),
     }
 }
 
 // Whether there is more, or a refusal.
-fn put_more(answers: &mut [u32], at: usize, answer: MoreAnswer)
-    requires { ⌜ at + 4 ≤ length (now answers) ⌝ }
-    ensures { λ r. ⌜ now (answers .exit) ≡ sets (now (answers .entry)) at (numbers (more-told answer)) ⌝ }
+fn more_numbers(answer: MoreAnswer) -> Numbers
+    ensures { λ r. ⌜ listed r ≡ numbers (more-told answer) ⌝ }
 {
     match answer {
-        MoreAnswer::More(more) => {
-            if more {
-                put(answers, at, 2, 1, 0, 0)
-            } else {
-                put(answers, at, 2, 0, 0, 0)
-            }
-        }
-        MoreAnswer::Refused(refusal) => put_refused(answers, at, refusal),
+        MoreAnswer::More(more) => four(2, truth(more), 0, 0),
+        MoreAnswer::Refused(refusal) => refused_numbers(refusal),
     }
 }
 
 // An index, or a refusal.
-fn put_index(answers: &mut [u32], at: usize, answer: IndexAnswer)
-    requires { ⌜ at + 4 ≤ length (now answers) ⌝ }
-    ensures { λ r. ⌜ now (answers .exit) ≡ sets (now (answers .entry)) at (numbers (index-told answer)) ⌝ }
+fn index_numbers(answer: IndexAnswer) -> Numbers
+    ensures { λ r. ⌜ listed r ≡ numbers (index-told answer) ⌝ }
 {
     match answer {
-        IndexAnswer::Index(index) => put(answers, at, 3, index.0, 0, 0),
-        IndexAnswer::Refused(refusal) => put_refused(answers, at, refusal),
+        IndexAnswer::Index(index) => four(3, index.0, 0, 0),
+        IndexAnswer::Refused(refusal) => refused_numbers(refusal),
     }
 }
 
 // Done, or a refusal.
-fn put_done(answers: &mut [u32], at: usize, answer: DoneAnswer)
-    requires { ⌜ at + 4 ≤ length (now answers) ⌝ }
-    ensures { λ r. ⌜ now (answers .exit) ≡ sets (now (answers .entry)) at (numbers (done-told answer)) ⌝ }
+fn done_numbers(answer: DoneAnswer) -> Numbers
+    ensures { λ r. ⌜ listed r ≡ numbers (done-told answer) ⌝ }
 {
     match answer {
-        DoneAnswer::Done => put(answers, at, 4, 0, 0, 0),
-        DoneAnswer::Refused(refusal) => put_refused(answers, at, refusal),
+        DoneAnswer::Done => four(4, 0, 0, 0),
+        DoneAnswer::Refused(refusal) => refused_numbers(refusal),
     }
 }
 
 // A refusal, by its number.
-fn put_refused(answers: &mut [u32], at: usize, refusal: Refusal)
-    requires { ⌜ at + 4 ≤ length (now answers) ⌝ }
-    ensures { λ r. ⌜ now (answers .exit) ≡ sets (now (answers .entry)) at (numbers (refused (number-of refusal))) ⌝ }
+fn refused_numbers(refusal: Refusal) -> Numbers
+    ensures { λ r. ⌜ listed r ≡ numbers (refused (number-of refusal)) ⌝ }
 {
-    put(answers, at, 5, refusals::number(refusal), 0, 0)
+    four(5, refusals::number(refusal), 0, 0)
+}
+
+// A truth value as a number.
+fn truth(b: bool) -> u32
+    ensures { λ r. ⌜ r ≡ cond b 1 0 ⌝ }
+{
+    if b { 1 } else { 0 }
 }
 
 // Four numbers.
-fn put(answers: &mut [u32], at: usize, tag: u32, a: u32, b: u32, c: u32)
-    requires { ⌜ at + 4 ≤ length (now answers) ⌝ }
-    ensures { λ r. ⌜ now (answers .exit) ≡ sets (now (answers .entry)) at (tag ∷ a ∷ b ∷ c ∷ []) ⌝ }
+fn four(tag: u32, first: u32, second: u32, third: u32) -> Numbers
+    ensures { λ r. ⌜ listed r ≡ tag ∷ first ∷ second ∷ third ∷ [] ⌝ }
 {
-    answers[at] = tag;
-    answers[at + 1] = a;
-    answers[at + 2] = b;
-    answers[at + 3] = c;
+    Numbers {
+        tag,
+        first,
+        second,
+        third,
+    }
+}
+
+// Writes four numbers at a place.
+fn put(answers: &mut [u32], at: usize, numbers: Numbers)
+    requires { ⌜ at + 4 ≤ length (now answers) ⌝ }
+    ensures { λ r. ⌜ now (answers .exit) ≡ sets (now (answers .entry)) at (listed numbers) ⌝ }
+{
+    answers[at] = numbers.tag;
+    answers[at + 1] = numbers.first;
+    answers[at + 2] = numbers.second;
+    answers[at + 3] = numbers.third;
 }
