@@ -1,12 +1,12 @@
 -- What replaying writes: nothing where opening is refused or the answers have no room; else the calls run on the window as it is at the
 -- start, where demand 3 says that they answer as the record does. Assumes nothing.
 use Prim.Native.Nat.{ℕ, _/_, _<_, _≤_}
-use mathlib.Core.Path.{_≡_, sym, ap, _∙_}
+use mathlib.Core.Path.{_≡_, ap, _∙_}
 use mathlib.Core.Bool.{Bool, true, false, cond}
-use mathlib.Core.List.{List, [], _∷_}
+use mathlib.Core.List.{List}
 use native.Mathlib.Omega.{arith}
 use borrow.Author.Tests.{lt-ltb, le-ltb, leb-true, leb-false}
-use lib.ListN.{length, getD, List·getD-eq-default}
+use lib.ListN.{length}
 use lib.Seq.{sets}
 use lib.Dec.{leb}
 use Rattle.patterns.specs.Bools.{by-test}
@@ -17,54 +17,24 @@ use Rattle.refusals.specs.declared.Refusal.{Refusal}
 use Rattle.scripts.specs.Scripts.{calls-of}
 use Rattle.scripts.specs.Running.{Noted, ran, ran-all}
 use Rattle.scanner.specs.Reading.{source-limit}
-use Rattle.token_record.specs.Record.{current-token-index, Answer, done, refused, Reply, reply}
+use Rattle.token_record.specs.Record.{done, refused, Reply, reply}
 use Rattle.window.specs.declared.Window.{Window}
 use Rattle.window.specs.declared.DoneGiven.{DoneGiven}
 use Rattle.window.specs.Window.{State, state, step, start, open-of, done-told, done-reply}
 use Rattle.window.specs.Determined.{done-read, done-same}
 use Rattle.demand3.specs.Simulation.{simulated, room-after}
-use Rattle.replay.specs.declared.Called.{Called}
-use Rattle.replay.specs.declared.Numbers.{Numbers}
-use Rattle.replay.specs.Script.{calls, call-of, numbers, form, lent, replayed}
+use Rattle.window_calls.specs.declared.Called.{Called}
+use Rattle.window_calls.specs.Calls.{form, listed, given, replied}
+use Rattle.replay.specs.Script.{lent, replayed}
 
--- The call of a number.
-pub call-known : (op arg n : ℕ) → op ≡ n → call-of op arg ≡ getD (calls arg) n current-token-index
-unfolding call-of
-call-known op arg n e = rw e
-
-pub call-beyond : (op arg : ℕ) → 8 ≤ op → call-of op arg ≡ current-token-index
-unfolding call-of
-call-beyond op arg h = List·getD-eq-default (calls arg) current-token-index h
-
--- those from 6 on want no argument
-pub call-plain : (op arg : ℕ) → 6 ≤ op → call-of op arg ≡ call-of op 0
-call-plain op arg h =
-    by-test (leb 8 op)
-    (λ e. let l : 8 ≤ op = leb-true _ _ e in call-beyond op arg l ∙ sym (call-beyond op 0 l))
-    (λ e. let l : op < 8 = leb-false _ _ e in
-    by-test (leb 7 op)
-    (λ e. let k : 7 ≤ op = leb-true _ _ e in let n : op ≡ 7 = omega arith in call-known op arg 7 n ∙ sym (call-known op 0 7 n))
-    (λ e. let k : op < 7 = leb-false _ _ e in let n : op ≡ 6 = omega arith in call-known op arg 6 n ∙ sym (call-known op 0 6 n)))
-
--- The four numbers of an answer, in order. What a call gives tells an answer and a window; the reply of a call; and noted, what it leaves.
-abbrev pub listed : Numbers → List ℕ
-listed n = n .tag ∷ n .first ∷ n .second ∷ n .third ∷ []
-
-pub record Told (a : Answer) (w : Window) (c : Called) : Type 0 where
-  pub window-after : c .window ≡ w
-  pub answer-told : listed (c .numbers) ≡ numbers a
-
-pub record Gave (y : Reply State) (c : Called) (room : List ℕ) : Type 0 where
-  pub state-after : state (c .window) room ≡ y .after
-  pub answer-told : listed (c .numbers) ≡ numbers (y .answer)
-
-pub gave : {y : Reply State} {a : Answer} {w : Window} {room : List ℕ} {c : Called} → reply a (state w room) ≡ y → Told a w c → Gave y c room
-gave e t = rw (← e) (record { state-after = rw (t .window-after); answer-told = t .answer-told })
-
+-- What a call by number gives, and the numbers of its answer written.
 pub note : {y : Reply State} {c : Called} {room before after : List ℕ} {at : ℕ}
-    → Gave y c room → after ≡ sets before at (listed (c .numbers)) → Noted form at y before (state (c .window) room) after
+    → given c room ≡ replied y → after ≡ sets before at (listed (c .numbers)) → Noted form at y before (state (c .window) room) after
 note {before = before} {at = at} g e =
-    record { state-after = g .state-after; answers-after = e ∙ ap (λ (l : List ℕ). sets before at l) (g .answer-told) }
+    record {
+      state-after = ap (λ (p : State × List ℕ). p .0) g;
+      answers-after = e ∙ ap (λ (p : State × List ℕ). sets before at (p .1)) g;
+    }
 
 -- How opening answers tells whether the source is within the limit.
 module _ (src room : List ℕ) (g : DoneGiven) (e : done-reply g room ≡ open-of src room) where

@@ -2,7 +2,7 @@
 // its current index and its mode; window_reading takes tokens of it, window_marks keeps its bookmarks.
 ghost use mathlib.Core.Path.{_≡_};
 ghost use Rattle.token_record.specs.Record.{current-token-index, enter-hex-pattern-mode, enter-hex-jump-mode};
-ghost use Rattle.window.specs.Window.{state, fresh, fresh-at, sound, step, open-of, index-reply, done-reply};
+ghost use Rattle.window.specs.Window.{state, fresh, fresh-at, read-on, sound, step, open-of, index-reply, done-reply};
 ghost use Rattle.window.specs.SoundLaws.{kept-behind-first, as-opened, placed};
 ghost use Rattle.window.specs.WindowLaws.{switch};
 use refusals::DoneAnswer;
@@ -118,6 +118,16 @@ impl Window {
         (self.fetched.0 - low.0) as usize
     }
 
+    // The window with another reader and number of tokens fetched.
+    pub fn read_on(self, reader: Reader, fetched: TokenIndex) -> Window
+        ensures { λ r. ⌜ r ≡ read-on reader (fetched .0) self ⌝ }
+    {
+        let mut moved = self;
+        moved.reader = reader;
+        moved.fetched = fetched;
+        moved
+    }
+
     // The index of the current token.
     pub fn current_token_index(self, src: &[u8], room: &[u32]) -> IndexGiven
         ensures { λ r. ⌜ index-reply r (now (room .entry)) ≡ step (now (src .entry)) current-token-index (state self (now (room .entry))) ⌝ }
@@ -208,11 +218,9 @@ fn switch(window: Window, bytes: usize, len: usize, reader: Reader) -> DoneGiven
     ensures { λ r. ⌜ r ≡ switch bytes len reader window ⌝ }
 {
     if window.is_sound(bytes, len) {
-        let mut moved = window;
-        moved.reader = reader;
         DoneGiven {
             answer: DoneAnswer::Done,
-            window: moved,
+            window: window.read_on(reader, window.fetched),
         }
     } else {
         DoneGiven {

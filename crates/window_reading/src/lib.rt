@@ -5,7 +5,7 @@ ghost use lib.ListN.{length};
 ghost use Rattle.scanner.specs.Reading.{source-limit};
 ghost use Rattle.token_record.specs.Record.{next-token, peek-token, has-more};
 ghost use Rattle.fetching.specs.Fetching.{fetched};
-ghost use Rattle.window.specs.Window.{state, read-on, seen, past, step, token-told, token-reply, more-reply, done-reply};
+ghost use Rattle.window.specs.Window.{state, seen, past, step, token-told, token-reply, more-reply, done-reply};
 ghost use Rattle.window.specs.SoundLaws.{Fit};
 ghost use Rattle.window_reading.specs.Reaching.{reached, still, gathered, reach};
 use fetching::Fetched;
@@ -32,7 +32,7 @@ pub fn next_token(window: Window, src: &[u8], room: &mut [u32]) -> TokenGiven
     ensures { λ r. ⌜ token-reply r (now (room .exit)) ≡ step (now (src .entry)) next-token (state window (now (room .entry))) ⌝ }
 {
     let reached = reach(window, src, room, 0);
-    let after = read_on(window, reached.reader, reached.fetched);
+    let after = window.read_on(reached.reader, reached.fetched);
     let answer = reached.answer;
     match answer {
         DoneAnswer::Done => TokenGiven {
@@ -51,7 +51,7 @@ pub fn peek_token(window: Window, src: &[u8], room: &mut [u32], n: usize) -> Tok
     ensures { λ r. ⌜ token-reply r (now (room .exit)) ≡ step (now (src .entry)) (peek-token n) (state window (now (room .entry))) ⌝ }
 {
     let reached = reach(window, src, room, n);
-    let after = read_on(window, reached.reader, reached.fetched);
+    let after = window.read_on(reached.reader, reached.fetched);
     let answer = reached.answer;
     match answer {
         DoneAnswer::Done => TokenGiven {
@@ -70,7 +70,7 @@ pub fn has_more(window: Window, src: &[u8], room: &mut [u32]) -> MoreGiven
     ensures { λ r. ⌜ more-reply r (now (room .exit)) ≡ step (now (src .entry)) has-more (state window (now (room .entry))) ⌝ }
 {
     let reached = reach(window, src, room, 0);
-    let after = read_on(window, reached.reader, reached.fetched);
+    let after = window.read_on(reached.reader, reached.fetched);
     let answer = reached.answer;
     match answer {
         DoneAnswer::Done => MoreGiven {
@@ -157,16 +157,6 @@ fn needed(far: usize) -> usize
     } else {
         SOURCE_LIMIT
     }
-}
-
-// The window with another reader and number of tokens fetched.
-fn read_on(window: Window, reader: Reader, fetched: TokenIndex) -> Window
-    ensures { λ r. ⌜ r ≡ read-on reader (fetched .0) window ⌝ }
-{
-    let mut moved = window;
-    moved.reader = reader;
-    moved.fetched = fetched;
-    moved
 }
 
 // The token n after the current one, where it has been fetched.

@@ -5,8 +5,8 @@ use Rattle.replay.specs.ReplayLaws.{note}
 use Rattle.replay.proofs.call.Statement.{statement}
 use Rattle.replay.proofs.call.Tie as tie
 
-make-requires : tie.Need-make-requires
-make-requires c κs = search needs
+call-requires : tie.Need-call-requires
+call-requires c κs = search needs
 
 put-requires : tie.Need-put-requires
 put-requires c κs = search needs
@@ -18,7 +18,7 @@ same-length-2 : tie.Need-same-length-2
 same-length-2 c = search needs
 
 returns : tie.Need-returns
-returns c = note (c .before .before .before .before .before .before .before .make .ensures) (c .before .before .before .put .ensures)
+returns c = note (c .before .before .before .before .before .before .before .call .ensures) (c .before .before .before .put .ensures)
 
 pub call-spec : {M : Type 1} → statement M
-call-spec = tie.close (tie.spec make-requires put-requires same-length same-length-2 returns)
+call-spec = tie.close (tie.spec call-requires put-requires same-length same-length-2 returns)

@@ -3,9 +3,9 @@
 use Prim.Native.Nat.{_≤_}
 use borrow.Author.Needs.{needs}
 use native.Mathlib.Omega.{arith}
-use Rattle.replay.specs.ReplayLaws.{call-plain}
-use Rattle.replay.proofs.make.Statement.{statement}
-use Rattle.replay.proofs.make.Tie as tie
+use Rattle.window_calls.specs.CallLaws.{call-plain}
+use Rattle.window_calls.proofs.call.Statement.{statement}
+use Rattle.window_calls.proofs.call.Tie as tie
 
 read-requires : tie.Need-read-requires
 read-requires c κs = search needs
@@ -37,8 +37,8 @@ returns-3 c =
     let h : 6 ≤ a .op = omega arith in
     rw (call-plain (a .op) (a .arg) h) (c .other .ensures)
 
-pub make-spec : {M : Type 1} → statement M
-make-spec =
+pub call-spec : {M : Type 1} → statement M
+call-spec =
     tie.close
     (tie.spec
     read-requires
