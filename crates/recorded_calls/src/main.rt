@@ -309,8 +309,8 @@ fn with_argument(record: &[u8], at: usize, op: u32) -> Asked {
     }
 }
 
-// The call at the place.
-fn call_at(record: &[u8], at: usize) -> Asked {
+// Next, peek or has_more at the place.
+fn reading_at(record: &[u8], at: usize) -> Asked {
     if let Upto::Place(next) = lines::after_bytes(record, at, b";next=") {
         return Asked::Call(0, 0, next);
     }
@@ -320,6 +320,11 @@ fn call_at(record: &[u8], at: usize) -> Asked {
     if let Upto::Place(next) = lines::after_bytes(record, at, b";has_more=") {
         return Asked::Call(2, 0, next);
     }
+    Asked::Nothing
+}
+
+// Bookmark, restore or remove at the place.
+fn marking_at(record: &[u8], at: usize) -> Asked {
     if let Upto::Place(next) = lines::after_bytes(record, at, b";bookmark=") {
         return Asked::Call(3, 0, next);
     }
@@ -329,6 +334,11 @@ fn call_at(record: &[u8], at: usize) -> Asked {
     if let Upto::Place(next) = lines::after_bytes(record, at, b";remove ") {
         return with_argument(record, next, 5);
     }
+    Asked::Nothing
+}
+
+// A switch or the current index at the place.
+fn other_at(record: &[u8], at: usize) -> Asked {
     if let Upto::Place(next) = lines::after_bytes(record, at, b";pattern=") {
         return Asked::Call(6, 0, next);
     }
@@ -339,6 +349,17 @@ fn call_at(record: &[u8], at: usize) -> Asked {
         return Asked::Call(8, 0, next);
     }
     Asked::Nothing
+}
+
+// The call at the place.
+fn call_at(record: &[u8], at: usize) -> Asked {
+    if let Asked::Call(op, arg, next) = reading_at(record, at) {
+        return Asked::Call(op, arg, next);
+    }
+    if let Asked::Call(op, arg, next) = marking_at(record, at) {
+        return Asked::Call(op, arg, next);
+    }
+    other_at(record, at)
 }
 
 // Reads the calls at the place, as many as there is room for.

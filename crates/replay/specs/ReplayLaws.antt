@@ -6,40 +6,35 @@ use mathlib.Core.Bool.{Bool, true, false, cond}
 use mathlib.Core.List.{List}
 use native.Mathlib.Omega.{arith}
 use borrow.Author.Tests.{lt-ltb, le-ltb, leb-true, leb-false}
-use lib.ListN.{length, getD}
+use lib.ListN.{length}
 use lib.Seq.{sets}
 use lib.Dec.{leb}
 use Rattle.patterns.specs.Bools.{by-test}
 use Rattle.patterns.specs.Determined.{Once, once}
-use Rattle.tokens.specs.NoneOf.{NoneOf}
 use Rattle.refusals.specs.declared.DoneAnswer.{DoneAnswer}
 use Rattle.refusals.specs.declared.DoneAnswer.the-variants.{Done, Refused}
 use Rattle.refusals.specs.declared.Refusal.{Refusal}
 use Rattle.scripts.specs.Scripts.{calls-of}
 use Rattle.scripts.specs.Running.{Noted, ran, ran-all}
-use Rattle.scripts.specs.Tables.{below, no-entry}
 use Rattle.scanner.specs.Reading.{source-limit}
-use Rattle.token_record.specs.Record.{current-token-index, Answer, done, refused, Reply, reply}
+use Rattle.token_record.specs.Record.{done, refused, Reply, reply}
 use Rattle.window.specs.declared.Window.{Window}
 use Rattle.window.specs.declared.DoneGiven.{DoneGiven}
 use Rattle.window.specs.Window.{State, state, step, start, open-of, done-told, done-reply}
 use Rattle.window.specs.Determined.{done-read, done-same}
 use Rattle.demand3.specs.Simulation.{simulated, room-after}
-use Rattle.replay.specs.Script.{calls, call-of, numbers, form, lent, replayed}
+use Rattle.window_calls.specs.declared.Called.{Called}
+use Rattle.window_calls.specs.Calls.{form, listed, given, replied}
+use Rattle.replay.specs.Script.{lent, replayed}
 
--- The call of a number.
-pub call-known : (op arg n : ℕ) → op ≡ n → call-of op arg ≡ getD (calls arg) n current-token-index
-unfolding call-of
-call-known op arg n e = rw e
-
-pub call-beyond : (op arg : ℕ) → NoneOf (below 8) op → call-of op arg ≡ current-token-index
-unfolding call-of
-call-beyond op arg h = no-entry (calls arg) current-token-index op h
-
--- A call's reply, and the numbers of its answer written.
-pub note : {y : Reply State} {a : Answer} {w r : Window} {room before after : List ℕ} {at : ℕ}
-    → reply a (state w room) ≡ y → (r ≡ w) × (after ≡ sets before at (numbers a)) → Noted form at y before (state r room) after
-note e n = rw (← e) (record { state-after = rw (n .0); answers-after = n .1 })
+-- What a call by number gives, and the numbers of its answer written.
+pub note : {y : Reply State} {c : Called} {room before after : List ℕ} {at : ℕ}
+    → given c room ≡ replied y → after ≡ sets before at (listed (c .numbers)) → Noted form at y before (state (c .window) room) after
+note {before = before} {at = at} g e =
+    record {
+      state-after = ap (λ (p : State × List ℕ). p .0) g;
+      answers-after = e ∙ ap (λ (p : State × List ℕ). sets before at (p .1)) g;
+    }
 
 -- How opening answers tells whether the source is within the limit.
 module _ (src room : List ℕ) (g : DoneGiven) (e : done-reply g room ≡ open-of src room) where

@@ -1,54 +1,17 @@
--- A script of calls as numbers, their answers as numbers, and what replaying a script writes: the answers of demand 3's record.
+-- What replaying a script of calls writes: the answers of demand 3's record, as numbers.
 -- Assumes nothing.
 use Prim.Native.Nat.{ℕ}
 use mathlib.Core.Path.{_≡_, refl}
-use mathlib.Core.Bool.{cond}
 use mathlib.Core.List.{List, [], _∷_}
-use lib.ListN.{length, getD, replicate}
+use lib.ListN.{length, replicate}
 use lib.Dec.{ltb}
 use Rattle.refusals.specs.Calls.{unless, run, after-all}
-use Rattle.scripts.specs.Scripts.{Form, calls-from, calls-of, no-room, noted}
+use Rattle.scripts.specs.Scripts.{calls-from, calls-of, no-room, noted}
 use Rattle.tokens.specs.Tokens.{ascii}
 use Rattle.scanner.specs.Reading.{source-limit}
-use Rattle.token_record.specs.Record.{Call, next-token, peek-token, has-more, bookmark, restore-bookmark, remove-bookmark, current-token-index, enter-hex-pattern-mode, enter-hex-jump-mode, Answer, token, none, truth, index, done, refused, Reply, reply, opened, bounded}
-use Rattle.token_room.specs.Room.{slots-in, nth, write-all}
-
--- A call is two numbers: which one, and its argument.
-abbrev pub calls : ℕ → List Call
-calls arg =
-    next-token
-    ∷ peek-token arg
-    ∷ has-more
-    ∷ bookmark
-    ∷ restore-bookmark (nth arg)
-    ∷ remove-bookmark (nth arg)
-    ∷ enter-hex-pattern-mode
-    ∷ enter-hex-jump-mode
-    ∷ []
-
-unfoldable pub call-of : ℕ → ℕ → Call
-call-of op arg = getD (calls arg) op current-token-index
-
--- An answer is four numbers: which one, and its values.
-abbrev pub numbers : Answer → List ℕ
-numbers none = 0 ∷ 0 ∷ 0 ∷ 0 ∷ []
-numbers (token x) = 1 ∷ x .kind ∷ x .start .0 ∷ x .end .0 ∷ []
-numbers (truth b) = 2 ∷ cond b 1 0 ∷ 0 ∷ 0 ∷ []
-numbers (index i) = 3 ∷ i .0 ∷ 0 ∷ 0 ∷ []
-numbers done = 4 ∷ 0 ∷ 0 ∷ 0 ∷ []
-numbers (refused n) = 5 ∷ n ∷ 0 ∷ 0 ∷ []
-
--- as many each; and both together
-pub four : (a : Answer) → length (numbers a) ≡ 4
-four none = refl
-four (token x) = refl
-four (truth b) = refl
-four (index i) = refl
-four done = refl
-four (refused n) = refl
-
-abbrev pub form : Form Call Answer
-form = record { call-width = 2; call-of = λ f. call-of (f 0) (f 1); answer-width = 4; numbers = numbers; sized = four }
+use Rattle.token_record.specs.Record.{refused, done, Reply, reply, opened, bounded}
+use Rattle.token_room.specs.Room.{slots-in, write-all}
+use Rattle.window_calls.specs.Calls.{call-of, form}
 
 -- Every lent number.
 pub record Lent : Type 0 where

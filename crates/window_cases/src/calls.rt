@@ -69,17 +69,17 @@ fn open(src: &[u8], room: &[u32]) -> Window {
 
 // The next token.
 fn next(w: Window, src: &[u8], room: &mut [u32]) -> Window {
-    token_given(w, w.next_token(src, room))
+    token_given(w, window_reading::next_token(w, src, room))
 }
 
 // The token n after the current one.
 fn peek(w: Window, src: &[u8], room: &mut [u32], n: usize) -> Window {
-    token_given(w, w.peek_token(src, room, n))
+    token_given(w, window_reading::peek_token(w, src, room, n))
 }
 
 // Whether there is a current token.
 fn has_more(w: Window, src: &[u8], room: &mut [u32]) -> Window {
-    more_given(w, w.has_more(src, room))
+    more_given(w, window_reading::has_more(w, src, room))
 }
 
 // The calls that fetch nothing, by the line's first letter.
@@ -87,9 +87,9 @@ fn moving(w: Window, asked: Asked, src: &[u8], room: &[u32]) -> Window {
     let mark = TokenIndex(lines::narrow(asked.first));
     let letter = asked.letter;
     match letter {
-        b'b' => index_given(w, w.bookmark(src, room)),
-        b'r' => done_given(w, w.restore_bookmark(src, room, mark)),
-        b'd' => done_given(w, w.remove_bookmark(src, room, mark)),
+        b'b' => index_given(w, window_marks::bookmark(w, src, room)),
+        b'r' => done_given(w, window_marks::restore_bookmark(w, src, room, mark)),
+        b'd' => done_given(w, window_marks::remove_bookmark(w, src, room, mark)),
         b'i' => index_given(w, w.current_token_index(src, room)),
         b'h' => done_given(w, w.enter_hex_pattern_mode(src, room)),
         _ => done_given(w, w.enter_hex_jump_mode(src, room)),

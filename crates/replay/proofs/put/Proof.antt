@@ -1,4 +1,4 @@
--- `replay::put` meets its contract: four stores, one behind the other.
+-- Four stores, one behind the other.
 -- Assumes nothing.
 use native.Mathlib.Numerals.{unary-clauses}
 use native.Mathlib.Omega.{arith}

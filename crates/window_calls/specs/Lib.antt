@@ -1,0 +1,3 @@
+-- The calls and answers as numbers (Calls), and their laws.
+pub mod Calls
+pub mod CallLaws

@@ -1,0 +1,201 @@
+// The window's calls by number, and their answers as numbers: what a script is made of.
+ghost use Prim.Native.Nat.{_≤_, _<_};
+ghost use mathlib.Core.Path.{_≡_};
+ghost use mathlib.Core.Bool.{cond};
+ghost use mathlib.Core.List.{[], _∷_};
+ghost use Rattle.refusals.specs.Refusals.{number-of};
+ghost use Rattle.token_record.specs.Record.{refused};
+ghost use Rattle.window.specs.Window.{state, step, token-told, more-told, index-told, done-told};
+ghost use Rattle.window_calls.specs.Calls.{call-of, numbers, listed, given, replied};
+ghost use Rattle.window_calls.specs.CallLaws.{Told};
+use refusals::DoneAnswer;
+use refusals::Refusal;
+use tokens::TokenIndex;
+use window::DoneGiven;
+use window::IndexAnswer;
+use window::IndexGiven;
+use window::MoreAnswer;
+use window::MoreGiven;
+use window::TokenAnswer;
+use window::TokenGiven;
+use window::Window;
+
+// What a call gives: the window after it, and its answer as numbers.
+pub struct Called {
+    pub window: Window,
+    pub numbers: Numbers,
+}
+
+// The four numbers of an answer.
+pub struct Numbers {
+    pub tag: u32,
+    pub first: u32,
+    pub second: u32,
+    pub third: u32,
+}
+
+// One call, by its number: of those that read, that keep bookmarks, or the others.
+pub fn call(window: Window, src: &[u8], room: &mut [u32], op: u32, arg: u32) -> Called
+    ensures { λ r. ⌜ given r (now (room .exit)) ≡ replied (step (now (src .entry)) (call-of op arg) (state window (now (room .entry)))) ⌝ }
+{
+    if op < 3 {
+        read(window, src, room, op, arg)
+    } else if op < 6 {
+        mark(window, src, room, op, TokenIndex(arg))
+    } else {
+        other(window, src, room, op)
+    }
+}
+
+// Next, peek or has_more.
+fn read(window: Window, src: &[u8], room: &mut [u32], op: u32, arg: u32) -> Called
+    requires { ⌜ op < 3 ⌝ }
+    ensures { λ r. ⌜ given r (now (room .exit)) ≡ replied (step (now (src .entry)) (call-of op arg) (state window (now (room .entry)))) ⌝ }
+{
+    if op == 0 {
+        of_token(window_reading::next_token(window, src, room))
+    } else if op == 1 {
+        of_token(window_reading::peek_token(window, src, room, arg as usize))
+    } else {
+        of_more(window_reading::has_more(window, src, room))
+    }
+}
+
+// Bookmark, restore or remove.
+fn mark(window: Window, src: &[u8], room: &[u32], op: u32, index: TokenIndex) -> Called
+    requires { ⌜ (3 ≤ op) × (op < 6) ⌝ }
+    ensures { λ r. ⌜ given r (now (room .entry)) ≡ replied (step (now (src .entry)) (call-of op (index .0)) (state window (now (room .entry)))) ⌝ }
+{
+    if op == 3 {
+        of_index(window_marks::bookmark(window, src, room))
+    } else if op == 4 {
+        of_done(window_marks::restore_bookmark(window, src, room, index))
+    } else {
+        of_done(window_marks::remove_bookmark(window, src, room, index))
+    }
+}
+
+// A switch, or the current index.
+fn other(window: Window, src: &[u8], room: &[u32], op: u32) -> Called
+    requires { ⌜ 6 ≤ op ⌝ }
+    ensures { λ r. ⌜ given r (now (room .entry)) ≡ replied (step (now (src .entry)) (call-of op 0) (state window (now (room .entry)))) ⌝ }
+{
+    if op == 6 {
+        of_done(window.enter_hex_pattern_mode(src, room))
+    } else if op == 7 {
+        of_done(window.enter_hex_jump_mode(src, room))
+    } else {
+        of_index(window.current_token_index(src, room))
+    }
+}
+
+// Each function `of_..` tells the answer of one kind of call as numbers, beside the window that the call gave.
+
+// Of next and peek.
+fn of_token(given: TokenGiven) -> Called
+    ensures { λ r. ⌜ Told (token-told (given .answer)) (given .window) r ⌝ }
+{
+    let answer = given.answer;
+    let numbers = token_numbers(answer);
+    let window = given.window;
+    Called { window, numbers }
+}
+
+// Of has_more.
+fn of_more(given: MoreGiven) -> Called
+    ensures { λ r. ⌜ Told (more-told (given .answer)) (given .window) r ⌝ }
+{
+    let answer = given.answer;
+    let numbers = more_numbers(answer);
+    let window = given.window;
+    Called { window, numbers }
+}
+
+// Of bookmark and the current index.
+fn of_index(given: IndexGiven) -> Called
+    ensures { λ r. ⌜ Told (index-told (given .answer)) (given .window) r ⌝ }
+{
+    let answer = given.answer;
+    let numbers = index_numbers(answer);
+    let window = given.window;
+    Called { window, numbers }
+}
+
+// Of restore, remove and the switches.
+fn of_done(given: DoneGiven) -> Called
+    ensures { λ r. ⌜ Told (done-told (given .answer)) (given .window) r ⌝ }
+{
+    let answer = given.answer;
+    let numbers = done_numbers(answer);
+    let window = given.window;
+    Called { window, numbers }
+}
+
+// Each function `.._numbers` gives the four numbers of an answer.
+
+// A token, none, or a refusal.
+fn token_numbers(answer: TokenAnswer) -> Numbers
+    ensures { λ r. ⌜ listed r ≡ numbers (token-told answer) ⌝ }
+{
+    match answer {
+        TokenAnswer::Token(token) => four(1, token.kind, token.start.0, token.end.0),
+        TokenAnswer::None => four(0, 0, 0, 0),
+        TokenAnswer::Refused(refusal) => refused_numbers(refusal),
+    }
+}
+
+// Whether there is more, or a refusal.
+fn more_numbers(answer: MoreAnswer) -> Numbers
+    ensures { λ r. ⌜ listed r ≡ numbers (more-told answer) ⌝ }
+{
+    match answer {
+        MoreAnswer::More(more) => four(2, truth(more), 0, 0),
+        MoreAnswer::Refused(refusal) => refused_numbers(refusal),
+    }
+}
+
+// An index, or a refusal.
+fn index_numbers(answer: IndexAnswer) -> Numbers
+    ensures { λ r. ⌜ listed r ≡ numbers (index-told answer) ⌝ }
+{
+    match answer {
+        IndexAnswer::Index(index) => four(3, index.0, 0, 0),
+        IndexAnswer::Refused(refusal) => refused_numbers(refusal),
+    }
+}
+
+// Done, or a refusal.
+fn done_numbers(answer: DoneAnswer) -> Numbers
+    ensures { λ r. ⌜ listed r ≡ numbers (done-told answer) ⌝ }
+{
+    match answer {
+        DoneAnswer::Done => four(4, 0, 0, 0),
+        DoneAnswer::Refused(refusal) => refused_numbers(refusal),
+    }
+}
+
+// A refusal, by its number.
+fn refused_numbers(refusal: Refusal) -> Numbers
+    ensures { λ r. ⌜ listed r ≡ numbers (refused (number-of refusal)) ⌝ }
+{
+    four(5, refusals::number(refusal), 0, 0)
+}
+
+// A truth value as a number.
+fn truth(b: bool) -> u32
+    ensures { λ r. ⌜ r ≡ cond b 1 0 ⌝ }
+{
+    if b { 1 } else { 0 }
+}
+
+// Four numbers.
+fn four(tag: u32, first: u32, second: u32, third: u32) -> Numbers
+    ensures { λ r. ⌜ listed r ≡ tag ∷ first ∷ second ∷ third ∷ [] ⌝ }
+{
+    Numbers {
+        tag,
+        first,
+        second,
+        third,
+    }
+}

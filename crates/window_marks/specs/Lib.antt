@@ -1,0 +1,2 @@
+-- The laws by which the calls on bookmarks are met.
+pub mod MarkLaws
