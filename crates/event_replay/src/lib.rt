@@ -88,15 +88,35 @@ fn call(
     };
     let mark = Position(arg as usize);
     match op {
-        0 => note_done(stream.push_token(room, &*opens, kind, span), answers, at),
-        1 => note_done(stream.push_error(room, &*opens, kind, span), answers, at),
-        2 => note_done(stream.begin(room, opens, kind), answers, at),
-        3 => note_done(stream.end(room, &*opens), answers, at),
-        4 => note_done(stream.end_with_error(room, &*opens), answers, at),
-        5 => note_position(stream.bookmark(&*room, &*opens), answers, at),
-        6 => note_done(stream.truncate(&*room, &*opens, mark), answers, at),
-        7 => note_done(stream.remove_bookmark(&*room, &*opens, mark), answers, at),
-        _ => note_event(stream.pop(&*room, &*opens), answers, at),
+        0 => note_done(
+            event_pushing::push_token(stream, room, &*opens, kind, span),
+            answers,
+            at,
+        ),
+        1 => note_done(
+            event_pushing::push_error(stream, room, &*opens, kind, span),
+            answers,
+            at,
+        ),
+        2 => note_done(event_nodes::begin(stream, room, opens, kind), answers, at),
+        3 => note_done(event_nodes::end(stream, room, &*opens), answers, at),
+        4 => note_done(
+            event_nodes::end_with_error(stream, room, &*opens),
+            answers,
+            at,
+        ),
+        5 => note_position(event_marks::bookmark(stream, &*room, &*opens), answers, at),
+        6 => note_done(
+            event_marks::truncate(stream, &*room, &*opens, mark),
+            answers,
+            at,
+        ),
+        7 => note_done(
+            event_marks::remove_bookmark(stream, &*room, &*opens, mark),
+            answers,
+            at,
+        ),
+        _ => note_event(event_popping::pop(stream, &*room, &*opens), answers, at),
     }
 }
 
