@@ -45,26 +45,16 @@ pub struct ToldGiven {
 pub fn call(stream: Stream, room: &mut [u32], opens: &mut [usize], asked: Asked) -> ToldGiven
     ensures { λ r. ⌜ told-reply r (now (room .exit)) (now (opens .exit)) ≡ told-of (step (asked-for asked) (state stream (now (room .entry)) (now (opens .entry)))) ⌝ }
 {
-    if asked.op < 5 {
-        done(change(stream, room, opens, asked))
+    if asked.op < 2 {
+        done(push(stream, room, &*opens, asked))
+    } else if asked.op < 5 {
+        done(node(stream, room, opens, asked))
     } else {
         look(stream, &*room, &*opens, asked)
     }
 }
 
-// The calls that write into a room.
-fn change(stream: Stream, room: &mut [u32], opens: &mut [usize], asked: Asked) -> DoneGiven
-    requires { ⌜ asked .op < 5 ⌝ }
-    ensures { λ r. ⌜ done-reply r (now (room .exit)) (now (opens .exit)) ≡ step (asked-for asked) (state stream (now (room .entry)) (now (opens .entry))) ⌝ }
-{
-    if asked.op < 2 {
-        push(stream, room, &*opens, asked)
-    } else {
-        node(stream, room, opens, asked)
-    }
-}
-
-// Those that push.
+// The calls that push.
 fn push(stream: Stream, room: &mut [u32], opens: &[usize], asked: Asked) -> DoneGiven
     requires { ⌜ asked .op < 2 ⌝ }
     ensures { λ r. ⌜ done-reply r (now (room .exit)) (now (opens .entry)) ≡ step (asked-for asked) (state stream (now (room .entry)) (now (opens .entry))) ⌝ }
@@ -81,7 +71,7 @@ fn push(stream: Stream, room: &mut [u32], opens: &[usize], asked: Asked) -> Done
     }
 }
 
-// Those on nodes.
+// The calls on nodes.
 fn node(stream: Stream, room: &mut [u32], opens: &mut [usize], asked: Asked) -> DoneGiven
     requires { ⌜ (2 ≤ asked .op) × (asked .op < 5) ⌝ }
     ensures { λ r. ⌜ done-reply r (now (room .exit)) (now (opens .exit)) ≡ step (asked-for asked) (state stream (now (room .entry)) (now (opens .entry))) ⌝ }

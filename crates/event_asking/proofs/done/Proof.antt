@@ -4,10 +4,6 @@ use mathlib.Core.Path.{refl}
 use borrow.Author.Needs.{needs}
 use Rattle.event_asking.proofs.done.Statement.{statement}
 use Rattle.event_asking.proofs.done.Tie as tie
-use Rattle.event_asking.proofs.done.Reads as reads
-use Rattle.event_asking.proofs.done.Lts as lts
-use Rattle.event_asking.proofs.refused.Reads as refused-reads
-use Rattle.event_asking.proofs.value.Reads as value-reads
 
 enum-told : tie.Need-enum-told
 enum-told c = search needs

@@ -4,11 +4,6 @@ use mathlib.Core.Path.{refl}
 use borrow.Author.Needs.{needs}
 use Rattle.event_asking.proofs.event.Statement.{statement}
 use Rattle.event_asking.proofs.event.Tie as tie
-use Rattle.event_asking.proofs.event.Reads as reads
-use Rattle.event_asking.proofs.event.Lts as lts
-use Rattle.event_asking.proofs.popped.Reads as popped-reads
-use Rattle.event_asking.proofs.refused.Reads as refused-reads
-use Rattle.event_asking.proofs.value.Reads as value-reads
 
 enum-known-answer : tie.Need-enum-known-answer
 enum-known-answer c = search needs

@@ -5,15 +5,6 @@ use Rattle.event_asking.specs.AskingLaws.{of-number, of-none, gave}
 use borrow.Author.Needs.{needs}
 use Rattle.event_asking.proofs.look.Statement.{statement}
 use Rattle.event_asking.proofs.look.Tie as tie
-use Rattle.event_asking.proofs.look.Reads as reads
-use Rattle.event_asking.proofs.look.Lts as lts
-use Rattle.event_asking.proofs.done.Reads as done-reads
-use Rattle.event_asking.proofs.event.Reads as event-reads
-use Rattle.event_asking.proofs.position.Reads as position-reads
-use Rattle.event_marks.proofs.bookmark.Reads as bookmark-reads
-use Rattle.event_marks.proofs.remove_bookmark.Reads as remove-bookmark-reads
-use Rattle.event_marks.proofs.truncate.Reads as truncate-reads
-use Rattle.event_popping.proofs.pop.Reads as pop-reads
 
 cast-t7 : tie.Need-cast-t7
 cast-t7 c = search needs

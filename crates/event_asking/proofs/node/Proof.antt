@@ -7,12 +7,6 @@ use Rattle.event_asking.specs.AskingLaws.{of-number, of-kind}
 use borrow.Author.Needs.{needs}
 use Rattle.event_asking.proofs.node.Statement.{statement}
 use Rattle.event_asking.proofs.node.Tie as tie
-use Rattle.event_asking.proofs.node.Reads as reads
-use Rattle.event_asking.proofs.node.Lts as lts
-use Rattle.event_asking.proofs.kind.Reads as kind-reads
-use Rattle.event_nodes.proofs.begin.Reads as begin-reads
-use Rattle.event_nodes.proofs.end.Reads as end-reads
-use Rattle.event_nodes.proofs.end_with_error.Reads as end-with-error-reads
 
 kind-requires : tie.Need-kind-requires
 kind-requires c κs = search needs

@@ -4,10 +4,6 @@ use mathlib.Core.Path.{refl}
 use borrow.Author.Needs.{needs}
 use Rattle.event_asking.proofs.position.Statement.{statement}
 use Rattle.event_asking.proofs.position.Tie as tie
-use Rattle.event_asking.proofs.position.Reads as reads
-use Rattle.event_asking.proofs.position.Lts as lts
-use Rattle.event_asking.proofs.refused.Reads as refused-reads
-use Rattle.event_asking.proofs.value.Reads as value-reads
 
 enum-known-answer : tie.Need-enum-known-answer
 enum-known-answer c = search needs

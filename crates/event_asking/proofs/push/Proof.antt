@@ -7,11 +7,6 @@ use Rattle.event_asking.specs.AskingLaws.{of-kind}
 use borrow.Author.Needs.{needs}
 use Rattle.event_asking.proofs.push.Statement.{statement}
 use Rattle.event_asking.proofs.push.Tie as tie
-use Rattle.event_asking.proofs.push.Reads as reads
-use Rattle.event_asking.proofs.push.Lts as lts
-use Rattle.event_asking.proofs.kind.Reads as kind-reads
-use Rattle.event_pushing.proofs.push_error.Reads as push-error-reads
-use Rattle.event_pushing.proofs.push_token.Reads as push-token-reads
 
 kind-requires : tie.Need-kind-requires
 kind-requires c κs = search needs

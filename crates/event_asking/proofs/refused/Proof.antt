@@ -3,10 +3,6 @@
 use borrow.Author.Needs.{needs}
 use Rattle.event_asking.proofs.refused.Statement.{statement}
 use Rattle.event_asking.proofs.refused.Tie as tie
-use Rattle.event_asking.proofs.refused.Reads as reads
-use Rattle.event_asking.proofs.refused.Lts as lts
-use Rattle.event_asking.proofs.value.Reads as value-reads
-use Rattle.refusals.proofs.number.Reads as number-reads
 
 number-requires : tie.Need-number-requires
 number-requires c κs = search needs
