@@ -78,9 +78,9 @@ fn node(stream: Stream, room: &mut [u32], opens: &mut [usize], asked: Asked) -> 
 {
     let op = asked.op;
     match op {
-        2 => event_nodes::begin(stream, room, opens, kind(asked)),
-        3 => event_nodes::end(stream, room, &*opens),
-        _ => event_nodes::end_with_error(stream, room, &*opens),
+        2 => event_opening::begin(stream, room, opens, kind(asked)),
+        3 => event_closing::end(stream, room, &*opens),
+        _ => event_closing::end_with_error(stream, room, &*opens),
     }
 }
 

@@ -48,7 +48,7 @@ pub fn begin(stream: &mut Stream, room: &mut [u32], opens: &mut [usize], kind: u
     ensures { λ r. ⌜ reply (done-told r) (state (now (stream .exit)) (now (room .exit)) (now (opens .exit))) ≡ step (begin-call kind) (state (now (stream .entry)) (now (room .entry)) (now (opens .entry))) ⌝ }
 {
     let before = *stream;
-    let given = event_nodes::begin(before, room, opens, kind);
+    let given = event_opening::begin(before, room, opens, kind);
     *stream = given.stream;
     given.answer
 }
@@ -58,7 +58,7 @@ pub fn end(stream: &mut Stream, room: &mut [u32], opens: &[usize]) -> DoneAnswer
     ensures { λ r. ⌜ reply (done-told r) (state (now (stream .exit)) (now (room .exit)) (now (opens .entry))) ≡ step end-call (state (now (stream .entry)) (now (room .entry)) (now (opens .entry))) ⌝ }
 {
     let before = *stream;
-    let given = event_nodes::end(before, room, opens);
+    let given = event_closing::end(before, room, opens);
     *stream = given.stream;
     given.answer
 }
@@ -68,7 +68,7 @@ pub fn end_with_error(stream: &mut Stream, room: &mut [u32], opens: &[usize]) ->
     ensures { λ r. ⌜ reply (done-told r) (state (now (stream .exit)) (now (room .exit)) (now (opens .entry))) ≡ step end-with-error (state (now (stream .entry)) (now (room .entry)) (now (opens .entry))) ⌝ }
 {
     let before = *stream;
-    let given = event_nodes::end_with_error(before, room, opens);
+    let given = event_closing::end_with_error(before, room, opens);
     *stream = given.stream;
     given.answer
 }

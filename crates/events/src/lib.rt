@@ -1,5 +1,5 @@
 // The event stream: the nodes, tokens and errors that a parser finds, in order, in a ring of slots that is lent. Its record, the answers, and
-// the steps that more than one call is made of; the calls are in the crates event_pushing, event_nodes, event_marks and event_popping.
+// the steps that more than one call is made of; the calls stand in the crates event_pushing, event_opening, event_closing, event_marks and event_popping.
 ghost use Prim.Native.Nat.{_+_, _-_, _≤_};
 ghost use mathlib.Core.Path.{_≡_};
 ghost use lib.ListN.{length};

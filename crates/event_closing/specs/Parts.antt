@@ -1,17 +1,11 @@
--- What the calls on nodes leave: a node opened, closed, or dropped. Assumes nothing.
+-- What the calls that close leave: a node closed, or dropped. Assumes nothing.
 use Prim.Native.Nat.{ℕ, _+_, _-_}
 use mathlib.Core.List.{List}
-use lib.ListN.{set}
-use Rattle.event_record.specs.declared.Event.{Event}
 use Rattle.event_record.specs.Record.{span, event-of, begin-tag, end-tag}
 use Rattle.event_room.specs.Room.{write}
 use Rattle.events.specs.declared.Stream.{Stream}
 use Rattle.events.specs.Stream.{State, state, inner-place}
 use Rattle.events.specs.Parts.{counting, slot-at, event-at}
-
--- The event that opens a node.
-abbrev pub opening : ℕ → Stream → Event
-opening k t = event-of begin-tag k (span (t .last .end .0) (t .last .end .0))
 
 -- The events' room where the Begin at a position gets a start, a kind and an end, and its End stands behind all events; the start is the
 -- Begin's own.
@@ -24,12 +18,6 @@ abbrev pub closing : ℕ → ℕ → Stream → List ℕ → List ℕ
 closing k p t room = closing-from (event-at t room p .span .start .0) k p t room
 
 -- Stream and rooms after each.
-abbrev pub begin-left : ℕ → State → State
-begin-left kind s =
-    let t = s .stream in
-    state (counting (t .count + 1) (t .opened + 1) (t .last) t) (write (s .room) (slot-at t (t .count)) (opening kind t))
-    (set (s .opens) (t .opened) (t .count))
-
 abbrev pub end-left : ℕ → State → State
 end-left kind s =
     let t = s .stream in

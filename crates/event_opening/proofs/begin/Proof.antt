@@ -2,8 +2,8 @@
 -- Assumes nothing.
 use borrow.Author.Needs.{needs}
 use Rattle.events.specs.SoundLaws.{fit, not-sound, passed-on}
-use Rattle.event_nodes.proofs.begin.Statement.{statement}
-use Rattle.event_nodes.proofs.begin.Tie as tie
+use Rattle.event_opening.proofs.begin.Statement.{statement}
+use Rattle.event_opening.proofs.begin.Tie as tie
 
 is-sound-requires : tie.Need-is-sound-requires
 is-sound-requires c κs = search needs

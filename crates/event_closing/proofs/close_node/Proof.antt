@@ -4,9 +4,9 @@ use mathlib.Core.Path.{refl}
 use borrow.Author.Needs.{needs}
 use native.Mathlib.Omega.{arith}
 use Rattle.event_record.specs.Record.{end, grounds}
-use Rattle.event_nodes.specs.AnswerLaws.{nothing-open, node-ended}
-use Rattle.event_nodes.proofs.close_node.Statement.{statement}
-use Rattle.event_nodes.proofs.close_node.Tie as tie
+use Rattle.event_closing.specs.AnswerLaws.{nothing-open, node-ended}
+use Rattle.event_closing.proofs.close_node.Statement.{statement}
+use Rattle.event_closing.proofs.close_node.Tie as tie
 
 refused-requires : tie.Need-refused-requires
 refused-requires c κs = search needs

@@ -2,9 +2,9 @@
 -- Assumes nothing.
 use borrow.Author.Needs.{needs}
 use native.Mathlib.Omega.{arith}
-use Rattle.event_nodes.specs.AnswerLaws.{too-deep, no-two-slots, node-opened}
-use Rattle.event_nodes.proofs.open_node.Statement.{statement}
-use Rattle.event_nodes.proofs.open_node.Tie as tie
+use Rattle.event_opening.specs.AnswerLaws.{too-deep, no-two-slots, node-opened}
+use Rattle.event_opening.proofs.open_node.Statement.{statement}
+use Rattle.event_opening.proofs.open_node.Tie as tie
 
 refused-requires : tie.Need-refused-requires
 refused-requires c κs = search needs
@@ -23,9 +23,6 @@ returns-2 c =
     let p = c .before .before in
     let s = p .before .before .before .before .before in
     rw (c .refused2 .ensures) (no-two-slots _ (s .pre) _ (omega arith) (omega (arith, p .spare .ensures)))
-
-span-of-requires : tie.Need-span-of-requires
-span-of-requires c κs = search needs
 
 mul-opens : tie.Need-mul-opens
 mul-opens c = search needs
@@ -54,9 +51,9 @@ same-length-2 c = search needs
 returns-3 : tie.Need-returns-3
 returns-3 c =
     let w = c .before .before .before .before in
-    let i = w .before .before .before .before in
+    let i = w .before .before .before in
     let s = i .before .before .before .before .before .before in
-    rw (c .counted .ensures, w .put .ensures, w .before .before .span-of .ensures)
+    rw (c .counted .ensures, w .put .ensures)
     (node-opened _ (s .pre) _ (i .before .before .if1 .left) (omega (arith, i .before .spare .ensures, i .if2 .left)))
 
 pub open-node-spec : {M : Type 1} → statement M
@@ -68,7 +65,6 @@ open-node-spec =
     spare-requires
     refused-requires-2
     returns-2
-    span-of-requires
     mul-opens
     slice-write-opens
     put-requires

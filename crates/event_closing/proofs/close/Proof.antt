@@ -1,8 +1,8 @@
 -- Both events have the start and the kind that are given, and the end of the last token.
 -- Assumes nothing.
 use borrow.Author.Needs.{needs}
-use Rattle.event_nodes.proofs.close.Statement.{statement}
-use Rattle.event_nodes.proofs.close.Tie as tie
+use Rattle.event_closing.proofs.close.Statement.{statement}
+use Rattle.event_closing.proofs.close.Tie as tie
 
 span-of-requires : tie.Need-span-of-requires
 span-of-requires c κs = search needs

@@ -1,47 +1,24 @@
--- What the calls on nodes answer, branch by branch of the code: the first ground that holds refuses, and where none holds the stores are those
+-- What the calls that close answer, branch by branch of the code: the first ground that holds refuses, and where none holds the stores are those
 -- of the list that the call leaves. For the list's figures are the record's. Assumes nothing.
-use Prim.Native.Nat.{ℕ, _+_, _-_, _≤_, _<_}
+use Prim.Native.Nat.{_+_, _<_}
 use mathlib.Core.Path.{_≡_, sym, ap, _∙_}
 use mathlib.Core.Bool.{true, false}
 use mathlib.Core.List.{[], _∷_}
 use native.Mathlib.Omega.{arith}
 use lib.ListN.{length}
 use lib.Dec.{eqb}
-use borrow.Author.Tests.{lt-ltb, le-ltb, le-leb, lt-leb, eq-eqb, ne-eqb}
+use borrow.Author.Tests.{eq-eqb, ne-eqb}
 use Rattle.event_record.specs.declared.Event.{Event}
-use Rattle.event_record.specs.Record.{Call, begin, end, end-with-error, done, refused, reply, error-kind}
-use Rattle.event_record.specs.Record.{inner, ended, spare, grounds}
+use Rattle.event_record.specs.Record.{Call, end, end-with-error, done, refused, reply, error-kind}
+use Rattle.event_record.specs.Record.{inner, ended, grounds}
 use Rattle.events.specs.Stream.{State, view, laid, answered, inner-place}
 use Rattle.events.specs.Parts.{event-at}
 use Rattle.events.specs.SoundLaws.{Fit}
 use Rattle.events.specs.HoldLaws.{view-count, view-opened}
-use Rattle.event_nodes.specs.Parts.{begin-left, end-left, drop-left}
-use Rattle.event_nodes.specs.HoldLaws.{view-inner, view-inner-event, begin-held, end-held, drop-held}
+use Rattle.event_closing.specs.Parts.{end-left, drop-left}
+use Rattle.event_closing.specs.HoldLaws.{view-inner, view-inner-event, end-held, drop-held}
 
 module _ (s : State) (k : Fit s) where
-  -- begin
-  module _ (kind : ℕ) where
-    pub too-deep : s .stream .places ≤ s .stream .opened → reply (refused 11) s ≡ answered (begin kind) s
-    unfolding answered
-    too-deep h = rw (view-opened s k, le-leb _ _ h)
-
-    pub no-two-slots : s .stream .opened < s .stream .places → s .stream .slots - (s .stream .count + s .stream .opened) < 2
-        → reply (refused 5) s ≡ answered (begin kind) s
-    unfolding answered
-    no-two-slots p h =
-        let d : length (view s .opens) < view s .places = omega (arith, view-opened s k) in
-        let l : spare (view s) < 2 = omega (arith, view-count s k, view-opened s k) in
-        rw (lt-leb _ _ d, lt-ltb _ _ l)
-
-    pub node-opened : s .stream .opened < s .stream .places → 2 ≤ s .stream .slots - (s .stream .count + s .stream .opened)
-        → reply done (begin-left kind s) ≡ answered (begin kind) s
-    unfolding answered
-    node-opened p h =
-        let d : length (view s .opens) < view s .places = omega (arith, view-opened s k) in
-        let l : 2 ≤ spare (view s) = omega (arith, view-count s k, view-opened s k) in
-        rw (lt-leb _ _ d, le-ltb _ _ l) (begin-held s k kind p)
-
-  -- end and end_with_error
   some-open : 0 < s .stream .opened → eqb (length (view s .opens)) 0 ≡ false
   some-open o = ne-eqb (length (view s .opens)) 0 (λ z. omega (arith, z, view-opened s k))
 

@@ -1,17 +1,17 @@
--- How the stores of the code lay a list with a node opened, closed or dropped: a Begin is one write and its place, an End two. By the laws
--- of the ring, at the positions that change. Assumes nothing.
+-- How the stores of the code lay a list with a node closed or dropped: an End is two writes. By the laws of the ring, at the positions that
+-- change. Assumes nothing.
 use Prim.Native.Nat.{ℕ, _+_, _-_, _≤_, _<_}
 use mathlib.Core.Path.{_≡_, refl, sym, _∙_}
 use mathlib.Core.List.{List, [], _∷_, _++_}
 use native.Mathlib.Omega.{arith}
 use native.Mathlib.Nat.{zero-add}
 use lib.ListN.{length, set, take, length-set, length-append}
-use lib.Seq.{length-take-le, getD-take, take-take, sets}
+use lib.Seq.{length-take-le, getD-take, take-take}
 use Rattle.rooms.specs.declared.Slot.{Slot}
-use Rattle.rooms.specs.Stores.{sets-append, sets-take}
+use Rattle.rooms.specs.Stores.{sets-take}
 use Rattle.event_record.specs.declared.Event.{Event}
 use Rattle.event_record.specs.Record.{done, reply, event-of, span, begin-tag, end-tag}
-use Rattle.event_record.specs.Record.{holding, begun, inner, inner-event, outer, ended, dropped}
+use Rattle.event_record.specs.Record.{holding, inner, inner-event, outer, ended, dropped}
 use Rattle.event_room.specs.Room.{slots-in, write, written}
 use Rattle.event_room.specs.RoomLaws.{length-write}
 use Rattle.event_room.specs.RingLaws.{listed-take, listed-get, written-set}
@@ -19,14 +19,8 @@ use Rattle.events.specs.declared.Stream.{Stream}
 use Rattle.events.specs.Stream.{State, view, laid, inner-place}
 use Rattle.events.specs.Parts.{slot-at, event-at}
 use Rattle.events.specs.SoundLaws.{Fit}
-use Rattle.events.specs.HoldLaws.{laid-as, unstored, one-written, opened-inside, front-slot, count-inside, view-count, view-opened, count-more, room-more}
-use Rattle.event_nodes.specs.Parts.{opening, begin-left, end-left, drop-left}
-
--- an open place more
-one-opened : (opens : List ℕ) (n p : ℕ) → n < length opens → set opens n p ≡ sets opens 0 (take n opens ++ (p ∷ []))
-one-opened opens n p h =
-    let l : 0 + length (take n opens) ≡ n = omega (arith, length-take-le n opens (omega arith)) in
-    rw (sets-append opens 0 (take n opens) (p ∷ []), sets-take opens n (omega arith), l)
+use Rattle.events.specs.HoldLaws.{laid-as, unstored, one-written, opened-inside, front-slot, count-inside, view-count, view-opened}
+use Rattle.event_closing.specs.Parts.{end-left, drop-left}
 
 module _ (s : State) (k : Fit s) where
   abbrev t : Stream
@@ -45,15 +39,6 @@ module _ (s : State) (k : Fit s) where
       rw (view-inner o, k .slots-same)
       (rw (zero-add (inner-place s)) at
       (listed-get (s .room) front 0 (t .count) (inner-place s) (event-of 0 0 (span 0 0)) (k .inner-inside o)))
-
-  pub begin-held : (kind : ℕ) → s .stream .opened < s .stream .places → reply done (begin-left kind s) ≡ laid s (reply done (begun kind (view s)))
-  unfolding view
-  begin-held kind p =
-      let y = opening kind t in
-      laid-as s done (begun kind (view s)) front (t .count + 1) (t .opened + 1) (write (s .room) (slot-at t (t .count)) y)
-      (set (s .opens) (t .opened) (t .count)) refl (count-more s k y)
-      (omega (arith, length-append (view s .opens) (length (view s .events) ∷ []), view-opened s k)) (room-more s k y)
-      (rw (view-count s k) (one-opened (s .opens) (t .opened) (t .count) (omega (arith, k .places-same))))
 
   -- a node closed, or dropped: the open places before it are left
   outer-opens : outer (view s) ≡ take (t .opened - 1) (s .opens)

@@ -1,11 +1,11 @@
-// The event stream's calls on nodes: opened, closed, closed as an error.
+// The event stream's calls that close a node: as it is, or as an error.
 ghost use Prim.Native.Nat.{_+_, _-_, _<_};
 ghost use mathlib.Core.Path.{_≡_};
-ghost use Rattle.event_record.specs.Record.{begin as begin-call, end as end-call, end-with-error, span};
+ghost use Rattle.event_record.specs.Record.{end as end-call, end-with-error, span};
 ghost use Rattle.events.specs.Stream.{state, answered, step, done-reply};
 ghost use Rattle.events.specs.Parts.{counting, done-with};
 ghost use Rattle.events.specs.SoundLaws.{Fit};
-ghost use Rattle.event_nodes.specs.Parts.{closing-from};
+ghost use Rattle.event_closing.specs.Parts.{closing-from};
 use event_record::BEGIN;
 use event_record::END;
 use event_record::ERROR_KIND;
@@ -15,17 +15,6 @@ use events::DoneGiven;
 use events::Stream;
 use refusals::Refusal;
 use tokens::Offset;
-
-// Opens a node, which starts at the end of the last token.
-pub fn begin(stream: Stream, room: &mut [u32], opens: &mut [usize], kind: u16) -> DoneGiven
-    ensures { λ r. ⌜ done-reply r (now (room .exit)) (now (opens .exit)) ≡ step (begin-call kind) (state stream (now (room .entry)) (now (opens .entry))) ⌝ }
-{
-    if events::is_sound(stream, &*room, &*opens) {
-        open_node(stream, room, opens, kind)
-    } else {
-        events::refused(stream, Refusal::NotAsOpened)
-    }
-}
 
 // Closes the innermost open node, which ends at the end of the last token.
 pub fn end(stream: Stream, room: &mut [u32], opens: &[usize]) -> DoneGiven
@@ -47,29 +36,6 @@ pub fn end_with_error(stream: Stream, room: &mut [u32], opens: &[usize]) -> Done
     } else {
         events::refused(stream, Refusal::NotAsOpened)
     }
-}
-
-// Opens a node, where a place and two slots are left.
-fn open_node(stream: Stream, room: &mut [u32], opens: &mut [usize], kind: u16) -> DoneGiven
-    requires { ⌜ Fit (state stream (now room) (now opens)) ⌝ }
-    ensures { λ r. ⌜ done-reply r (now (room .exit)) (now (opens .exit)) ≡ answered (begin-call kind) (state stream (now (room .entry)) (now (opens .entry))) ⌝ }
-{
-    if stream.places <= stream.opened {
-        return events::refused(stream, Refusal::TooDeep);
-    }
-    if events::spare(stream) < 2 {
-        return events::refused(stream, Refusal::EventsFull);
-    }
-    let last = stream.last;
-    let event = Event {
-        tag: BEGIN,
-        kind: kind as u32,
-        span: span_of(last.end.0, last.end.0),
-    };
-    let place = stream.opened;
-    opens[place] = stream.count;
-    events::put(stream, room, stream.count, event);
-    events::counted(stream, stream.count + 1, place + 1, last)
 }
 
 // Closes the innermost node, where one is open.
