@@ -1,5 +1,5 @@
-// The event stream with its record lent: each call updates that record itself. Thin: the work is done by the crate events on a copy of
-// the record, and what it gives is stored, refused or not. All nine are proved by one walk of the code.
+// The event stream with its record lent: each call updates that record itself. Thin: the work is done by the function of the same name on a
+// copy of the record, and what it gives is stored, refused or not. All nine are proved by one walk of the code.
 ghost use mathlib.Core.Path.{_≡_};
 ghost use Rattle.refusals.specs.Calls.{reply};
 ghost use Rattle.event_record.specs.Record.{push-token, push-error, begin as begin-call, end as end-call, end-with-error, bookmark as bookmark-call, truncate as truncate-call, remove-bookmark, pop as pop-call};
@@ -22,7 +22,7 @@ pub fn push_token(
     ensures { λ r. ⌜ reply (done-told r) (state (now (stream .exit)) (now (room .exit)) (now (opens .entry))) ≡ step (push-token kind span) (state (now (stream .entry)) (now (room .entry)) (now (opens .entry))) ⌝ }
 {
     let before = *stream;
-    let given = before.push_token(room, opens, kind, span);
+    let given = event_pushing::push_token(before, room, opens, kind, span);
     *stream = given.stream;
     given.answer
 }
@@ -38,7 +38,7 @@ pub fn push_error(
     ensures { λ r. ⌜ reply (done-told r) (state (now (stream .exit)) (now (room .exit)) (now (opens .entry))) ≡ step (push-error message span) (state (now (stream .entry)) (now (room .entry)) (now (opens .entry))) ⌝ }
 {
     let before = *stream;
-    let given = before.push_error(room, opens, message, span);
+    let given = event_pushing::push_error(before, room, opens, message, span);
     *stream = given.stream;
     given.answer
 }
@@ -48,7 +48,7 @@ pub fn begin(stream: &mut Stream, room: &mut [u32], opens: &mut [usize], kind: u
     ensures { λ r. ⌜ reply (done-told r) (state (now (stream .exit)) (now (room .exit)) (now (opens .exit))) ≡ step (begin-call kind) (state (now (stream .entry)) (now (room .entry)) (now (opens .entry))) ⌝ }
 {
     let before = *stream;
-    let given = before.begin(room, opens, kind);
+    let given = event_opening::begin(before, room, opens, kind);
     *stream = given.stream;
     given.answer
 }
@@ -58,7 +58,7 @@ pub fn end(stream: &mut Stream, room: &mut [u32], opens: &[usize]) -> DoneAnswer
     ensures { λ r. ⌜ reply (done-told r) (state (now (stream .exit)) (now (room .exit)) (now (opens .entry))) ≡ step end-call (state (now (stream .entry)) (now (room .entry)) (now (opens .entry))) ⌝ }
 {
     let before = *stream;
-    let given = before.end(room, opens);
+    let given = event_closing::end(before, room, opens);
     *stream = given.stream;
     given.answer
 }
@@ -68,7 +68,7 @@ pub fn end_with_error(stream: &mut Stream, room: &mut [u32], opens: &[usize]) ->
     ensures { λ r. ⌜ reply (done-told r) (state (now (stream .exit)) (now (room .exit)) (now (opens .entry))) ≡ step end-with-error (state (now (stream .entry)) (now (room .entry)) (now (opens .entry))) ⌝ }
 {
     let before = *stream;
-    let given = before.end_with_error(room, opens);
+    let given = event_closing::end_with_error(before, room, opens);
     *stream = given.stream;
     given.answer
 }
@@ -78,7 +78,7 @@ pub fn bookmark(stream: &mut Stream, room: &[u32], opens: &[usize]) -> PositionA
     ensures { λ r. ⌜ reply (position-told r) (state (now (stream .exit)) (now (room .entry)) (now (opens .entry))) ≡ step bookmark-call (state (now (stream .entry)) (now (room .entry)) (now (opens .entry))) ⌝ }
 {
     let before = *stream;
-    let given = before.bookmark(room, opens);
+    let given = event_marks::bookmark(before, room, opens);
     *stream = given.stream;
     given.answer
 }
@@ -88,7 +88,7 @@ pub fn truncate(stream: &mut Stream, room: &[u32], opens: &[usize], mark: Positi
     ensures { λ r. ⌜ reply (done-told r) (state (now (stream .exit)) (now (room .entry)) (now (opens .entry))) ≡ step (truncate-call mark) (state (now (stream .entry)) (now (room .entry)) (now (opens .entry))) ⌝ }
 {
     let before = *stream;
-    let given = before.truncate(room, opens, mark);
+    let given = event_marks::truncate(before, room, opens, mark);
     *stream = given.stream;
     given.answer
 }
@@ -103,7 +103,7 @@ pub fn remove_bookmark(
     ensures { λ r. ⌜ reply (done-told r) (state (now (stream .exit)) (now (room .entry)) (now (opens .entry))) ≡ step (remove-bookmark mark) (state (now (stream .entry)) (now (room .entry)) (now (opens .entry))) ⌝ }
 {
     let before = *stream;
-    let given = before.remove_bookmark(room, opens, mark);
+    let given = event_marks::remove_bookmark(before, room, opens, mark);
     *stream = given.stream;
     given.answer
 }
@@ -113,7 +113,7 @@ pub fn pop(stream: &mut Stream, room: &[u32], opens: &[usize]) -> EventAnswer
     ensures { λ r. ⌜ reply (event-told r) (state (now (stream .exit)) (now (room .entry)) (now (opens .entry))) ≡ step pop-call (state (now (stream .entry)) (now (room .entry)) (now (opens .entry))) ⌝ }
 {
     let before = *stream;
-    let given = before.pop(room, opens);
+    let given = event_popping::pop(before, room, opens);
     *stream = given.stream;
     given.answer
 }

@@ -101,7 +101,7 @@ fn open(room: &[u32], opens: &[usize]) -> Stream {
 
 // Pops an event.
 fn pop(s: Stream, room: &[u32], opens: &[usize]) -> Stream {
-    let given = s.pop(room, opens);
+    let given = event_popping::pop(s, room, opens);
     let answer = given.answer;
     let after = given.stream;
     match answer {
@@ -121,7 +121,7 @@ fn drain(s: Stream, room: &[u32], opens: &[usize]) -> Stream {
     let mut left = s;
     let mut turns: usize = 0;
     while turns < most {
-        let given = left.pop(room, opens);
+        let given = event_popping::pop(left, room, opens);
         let answer = given.answer;
         left = given.stream;
         match answer {
@@ -150,14 +150,14 @@ pub(crate) fn make(
     let mark = Position(asked.first);
     match named(asked.letter, width) {
         Call::Open => open(room, opens),
-        Call::Token => done_given(s, s.push_token(room, opens, kind, span)),
-        Call::Error => done_given(s, s.push_error(room, opens, kind, span)),
-        Call::Begin => done_given(s, s.begin(room, opens, kind)),
-        Call::End => done_given(s, s.end(room, opens)),
-        Call::EndWithError => done_given(s, s.end_with_error(room, opens)),
-        Call::Bookmark => position_given(s, s.bookmark(room, opens)),
-        Call::Truncate => done_given(s, s.truncate(room, opens, mark)),
-        Call::Remove => done_given(s, s.remove_bookmark(room, opens, mark)),
+        Call::Token => done_given(s, event_pushing::push_token(s, room, opens, kind, span)),
+        Call::Error => done_given(s, event_pushing::push_error(s, room, opens, kind, span)),
+        Call::Begin => done_given(s, event_opening::begin(s, room, opens, kind)),
+        Call::End => done_given(s, event_closing::end(s, room, opens)),
+        Call::EndWithError => done_given(s, event_closing::end_with_error(s, room, opens)),
+        Call::Bookmark => position_given(s, event_marks::bookmark(s, room, opens)),
+        Call::Truncate => done_given(s, event_marks::truncate(s, room, opens, mark)),
+        Call::Remove => done_given(s, event_marks::remove_bookmark(s, room, opens, mark)),
         Call::Pop => pop(s, room, opens),
         Call::Drain => drain(s, room, opens),
         Call::View => say::view(s, room, opens),

@@ -3,36 +3,33 @@
 use Prim.Native.Nat.{ℕ, _/_, _<_, _≤_}
 use mathlib.Core.Path.{_≡_, ap, _∙_}
 use mathlib.Core.List.{List}
-use lib.ListN.{length, getD}
+use lib.ListN.{length}
 use lib.Seq.{sets}
 use borrow.Author.Tests.{lt-ltb, le-ltb}
 use Rattle.patterns.specs.Determined.{Once, once}
 use Rattle.refusals.specs.declared.DoneAnswer.{DoneAnswer}
-use Rattle.tokens.specs.NoneOf.{NoneOf}
 use Rattle.scripts.specs.Scripts.{calls-of}
 use Rattle.scripts.specs.Running.{Noted, ran, ran-all}
-use Rattle.scripts.specs.Tables.{below, no-entry}
-use Rattle.event_record.specs.Record.{pop, Answer, done, refused, Reply, reply}
+use Rattle.event_record.specs.Record.{Call, done, refused, reply}
 use Rattle.event_room.specs.Room.{slots-in}
 use Rattle.events.specs.declared.Stream.{Stream}
 use Rattle.events.specs.Stream.{State, state, fresh, step, done-told}
 use Rattle.events.specs.Determined.{done-read, done-same}
+use Rattle.event_asking.specs.declared.ToldGiven.{ToldGiven}
+use Rattle.event_asking.specs.Asking.{told-numbers, told-reply, told-of}
 use Rattle.event_view.specs.Viewed.{start, viewed}
-use Rattle.event_replay.specs.Script.{calls, call-of, numbers, form, lent, replayed}
-
--- The call of a number.
-pub call-known : (op a b c n : ℕ) → op ≡ n → call-of op a b c ≡ getD (calls a b c) n pop
-unfolding call-of
-call-known op a b c n e = rw e
-
-pub call-beyond : (op a b c : ℕ) → NoneOf (below 8) op → call-of op a b c ≡ pop
-unfolding call-of
-call-beyond op a b c h = no-entry (calls a b c) pop op h
+use Rattle.event_replay.specs.Script.{form, lent, replayed}
 
 -- A call's reply, and the numbers of its answer written.
-pub note : {y : Reply State} {a : Answer} {t r : Stream} {room opens before after : List ℕ} {at : ℕ}
-    → reply a (state t room opens) ≡ y → (r ≡ t) × (after ≡ sets before at (numbers a)) → Noted form at y before (state r room opens) after
-note e n = rw (← e) (record { state-after = rw (n .0); answers-after = n .1 })
+pub note : (s : State) (before : List ℕ) (at : ℕ) {c d : Call} {g : ToldGiven} {room opens after : List ℕ}
+    → told-reply g room opens ≡ told-of (step c s) → c ≡ d → after ≡ sets before at (told-numbers (g .told))
+    → Noted form at (step d s) before (state (g .stream) room opens) after
+note s before at e p n =
+    rw (← p)
+    (record {
+      state-after = ap (λ (q : List ℕ × State). q .1) e;
+      answers-after = n ∙ ap (λ (q : List ℕ × State). sets before at (q .0)) e;
+    })
 
 module _ (script room opens answers : List ℕ) where
   -- no room for the answers

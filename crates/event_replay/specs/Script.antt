@@ -1,51 +1,18 @@
--- A script of calls of the event stream as numbers, their answers as numbers, and what replaying a script writes: the answers of the plain
--- list of events. Assumes nothing.
-use Prim.Native.Nat.{ℕ, _%_}
+-- A script of calls of the event stream as numbers, and what replaying it writes: the answers of the plain list of events, as numbers.
+-- Assumes nothing.
+use Prim.Native.Nat.{ℕ}
 use mathlib.Core.Path.{_≡_, refl}
 use mathlib.Core.List.{List, [], _∷_}
-use lib.ListN.{length, getD, replicate}
+use lib.ListN.{length, replicate}
 use Rattle.refusals.specs.Calls.{unless, run, after-all}
 use Rattle.scripts.specs.Scripts.{Form, calls-from, calls-of, no-room, noted}
-use Rattle.event_record.specs.Record.{Call, push-token, push-error, begin, end, end-with-error, bookmark, truncate, remove-bookmark, pop, Answer, done, none, position, event, refused, Reply, reply, span, at, opened, answered}
+use Rattle.event_record.specs.Record.{Call, Answer, done, refused, Reply, reply, opened, answered}
 use Rattle.event_room.specs.Room.{slots-in}
 use Rattle.events.specs.Stream.{step}
+use Rattle.event_asking.specs.Asking.{call-of, numbers, five}
 use Rattle.event_view.specs.Viewed.{start}
 
--- A call is four numbers: which one, and its arguments. Of a kind or message the low 16 bits count.
-abbrev pub kind-of : ℕ → ℕ
-kind-of a = a % 65536
-
-abbrev pub calls : ℕ → ℕ → ℕ → List Call
-calls a b c =
-    push-token (kind-of a) (span b c)
-    ∷ push-error (kind-of a) (span b c)
-    ∷ begin (kind-of a)
-    ∷ end
-    ∷ end-with-error
-    ∷ bookmark
-    ∷ truncate (at a)
-    ∷ remove-bookmark (at a)
-    ∷ []
-
-unfoldable pub call-of : ℕ → ℕ → ℕ → ℕ → Call
-call-of op a b c = getD (calls a b c) op pop
-
--- An answer is five numbers: which one, and its values.
-abbrev pub numbers : Answer → List ℕ
-numbers none = 0 ∷ 0 ∷ 0 ∷ 0 ∷ 0 ∷ []
-numbers (event y) = 1 ∷ y .tag ∷ y .kind ∷ y .span .start .0 ∷ y .span .end .0 ∷ []
-numbers (position p) = 3 ∷ p .0 ∷ 0 ∷ 0 ∷ 0 ∷ []
-numbers done = 4 ∷ 0 ∷ 0 ∷ 0 ∷ 0 ∷ []
-numbers (refused n) = 5 ∷ n ∷ 0 ∷ 0 ∷ 0 ∷ []
-
--- as many each; and both together
-pub five : (a : Answer) → length (numbers a) ≡ 5
-five none = refl
-five (event y) = refl
-five (position p) = refl
-five done = refl
-five (refused n) = refl
-
+-- A call is four numbers, an answer five (event_asking).
 abbrev pub form : Form Call Answer
 form =
     record {

@@ -96,3 +96,6 @@ module _ (s : State) where
 
   pub passed-on : (c : Call) {b : Bool} {x : Reply State} → b ≡ sound s → b ≡ true → x ≡ answered c s → x ≡ step c s
   passed-on c p e h = h ∙ answered-now c (sym p ∙ e)
+
+  pub when-sound : (c : Call) {b : Bool} {x : Reply State} → b ≡ sound s → b ≡ true → (Fit s → x ≡ answered c s) → x ≡ step c s
+  when-sound c p e h = passed-on c p e (h (fit p e))

@@ -6,9 +6,9 @@ use contract.Running.{givenOf, tables, tablesOf}
 use denote.Triple.Spec.{tripleOf}
 use denote.Triple.Table.{entered, cited}
 use Rattle.event_record.specs.Record.{begin as call}
-use Rattle.events.proofs.Stream.begin as core
-use Rattle.events.proofs.Stream.begin.Symbol as core-def
-use Rattle.events.proofs.Stream.begin.Met as core-thm
+use Rattle.event_opening.proofs.begin as core
+use Rattle.event_opening.proofs.begin.Symbol as core-def
+use Rattle.event_opening.proofs.begin.Met as core-thm
 use Rattle.event_calls.proofs.Answers.{dones, stream-val}
 use Rattle.event_calls.proofs.Lifted.{spelt, meets}
 use Rattle.event_calls.proofs.Shapes.{open-node, opening}
@@ -20,7 +20,7 @@ use Rattle.event_calls.proofs.begin.Code as code
 pub begin-spec : {M : Type 1} → stated.statement M
 unfolding code.routine tablesOf
 begin-spec 𝓤 H 𝓜 𝓖 𝓡 =
-    let covered = cited 𝓤 H (tripleOf 𝓤 H (𝓖 .A) core.signature (core.spec 𝓤 H (𝓖 .A) (𝓜 .mem) (𝓡 .run))) 𝓜 𝓡 code.env core-def.name core-def.routine code.calls-events·Stream·begin (core-thm.met 𝓤 H 𝓜 𝓖 𝓡) in
+    let covered = cited 𝓤 H (tripleOf 𝓤 H (𝓖 .A) core.signature (core.spec 𝓤 H (𝓖 .A) (𝓜 .mem) (𝓡 .run))) 𝓜 𝓡 code.env core-def.name core-def.routine code.calls-event-opening·begin (core-thm.met 𝓤 H 𝓜 𝓖 𝓡) in
     entered 𝓤 H (tripleOf 𝓤 H (𝓖 .A) thin.signature (thin.spec 𝓤 H (𝓖 .A) (𝓜 .mem) (𝓡 .run)))
     (tables 𝓤 H 𝓜 𝓡 code.env .C) (tables 𝓤 H 𝓜 𝓡 code.env .Λ) key.name code.function (code.unfolded 𝓤 H 𝓜 𝓡)
     (meets dones open-node 𝓤 H (𝓖 .A) (givenOf 𝓤 H 𝓜 𝓖) core-def.name (opening call) (tablesOf 𝓤 H 𝓜 (tables 𝓤 H 𝓜 𝓡 code.env)) (thin.clauses 𝓤 H (𝓖 .A) (𝓜 .mem) (𝓡 .run))

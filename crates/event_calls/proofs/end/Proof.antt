@@ -6,9 +6,9 @@ use contract.Running.{givenOf, tables, tablesOf}
 use denote.Triple.Spec.{tripleOf}
 use denote.Triple.Table.{entered, cited}
 use Rattle.event_record.specs.Record.{end as call}
-use Rattle.events.proofs.Stream.end as core
-use Rattle.events.proofs.Stream.end.Symbol as core-def
-use Rattle.events.proofs.Stream.end.Met as core-thm
+use Rattle.event_closing.proofs.end as core
+use Rattle.event_closing.proofs.end.Symbol as core-def
+use Rattle.event_closing.proofs.end.Met as core-thm
 use Rattle.event_calls.proofs.Answers.{dones, stream-val}
 use Rattle.event_calls.proofs.Lifted.{spelt, meets}
 use Rattle.event_calls.proofs.Shapes.{close-node, closing}
@@ -20,7 +20,7 @@ use Rattle.event_calls.proofs.end.Code as code
 pub end-spec : {M : Type 1} → stated.statement M
 unfolding code.routine tablesOf
 end-spec 𝓤 H 𝓜 𝓖 𝓡 =
-    let covered = cited 𝓤 H (tripleOf 𝓤 H (𝓖 .A) core.signature (core.spec 𝓤 H (𝓖 .A) (𝓜 .mem) (𝓡 .run))) 𝓜 𝓡 code.env core-def.name core-def.routine code.calls-events·Stream·end (core-thm.met 𝓤 H 𝓜 𝓖 𝓡) in
+    let covered = cited 𝓤 H (tripleOf 𝓤 H (𝓖 .A) core.signature (core.spec 𝓤 H (𝓖 .A) (𝓜 .mem) (𝓡 .run))) 𝓜 𝓡 code.env core-def.name core-def.routine code.calls-event-closing·end (core-thm.met 𝓤 H 𝓜 𝓖 𝓡) in
     entered 𝓤 H (tripleOf 𝓤 H (𝓖 .A) thin.signature (thin.spec 𝓤 H (𝓖 .A) (𝓜 .mem) (𝓡 .run)))
     (tables 𝓤 H 𝓜 𝓡 code.env .C) (tables 𝓤 H 𝓜 𝓡 code.env .Λ) key.name code.function (code.unfolded 𝓤 H 𝓜 𝓡)
     (meets dones close-node 𝓤 H (𝓖 .A) (givenOf 𝓤 H 𝓜 𝓖) core-def.name (closing call) (tablesOf 𝓤 H 𝓜 (tables 𝓤 H 𝓜 𝓡 code.env)) (thin.clauses 𝓤 H (𝓖 .A) (𝓜 .mem) (𝓡 .run))

@@ -6,9 +6,9 @@ use contract.Running.{givenOf, tables, tablesOf}
 use denote.Triple.Spec.{tripleOf}
 use denote.Triple.Table.{entered, cited}
 use Rattle.event_record.specs.Record.{pop as call}
-use Rattle.events.proofs.Stream.pop as core
-use Rattle.events.proofs.Stream.pop.Symbol as core-def
-use Rattle.events.proofs.Stream.pop.Met as core-thm
+use Rattle.event_popping.proofs.pop as core
+use Rattle.event_popping.proofs.pop.Symbol as core-def
+use Rattle.event_popping.proofs.pop.Met as core-thm
 use Rattle.event_calls.proofs.Answers.{events, stream-val}
 use Rattle.event_calls.proofs.Lifted.{spelt, meets}
 use Rattle.event_calls.proofs.Shapes.{ask, asking}
@@ -20,7 +20,7 @@ use Rattle.event_calls.proofs.pop.Code as code
 pub pop-spec : {M : Type 1} → stated.statement M
 unfolding code.routine tablesOf
 pop-spec 𝓤 H 𝓜 𝓖 𝓡 =
-    let covered = cited 𝓤 H (tripleOf 𝓤 H (𝓖 .A) core.signature (core.spec 𝓤 H (𝓖 .A) (𝓜 .mem) (𝓡 .run))) 𝓜 𝓡 code.env core-def.name core-def.routine code.calls-events·Stream·pop (core-thm.met 𝓤 H 𝓜 𝓖 𝓡) in
+    let covered = cited 𝓤 H (tripleOf 𝓤 H (𝓖 .A) core.signature (core.spec 𝓤 H (𝓖 .A) (𝓜 .mem) (𝓡 .run))) 𝓜 𝓡 code.env core-def.name core-def.routine code.calls-event-popping·pop (core-thm.met 𝓤 H 𝓜 𝓖 𝓡) in
     entered 𝓤 H (tripleOf 𝓤 H (𝓖 .A) thin.signature (thin.spec 𝓤 H (𝓖 .A) (𝓜 .mem) (𝓡 .run)))
     (tables 𝓤 H 𝓜 𝓡 code.env .C) (tables 𝓤 H 𝓜 𝓡 code.env .Λ) key.name code.function (code.unfolded 𝓤 H 𝓜 𝓡)
     (meets events ask 𝓤 H (𝓖 .A) (givenOf 𝓤 H 𝓜 𝓖) core-def.name (asking events call) (tablesOf 𝓤 H 𝓜 (tables 𝓤 H 𝓜 𝓡 code.env)) (thin.clauses 𝓤 H (𝓖 .A) (𝓜 .mem) (𝓡 .run))

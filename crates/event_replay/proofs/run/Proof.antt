@@ -2,13 +2,14 @@
 -- the start. The measure is the number of calls that are left. Assumes nothing.
 use Prim.Native.Nat.{_≤_, _<_, _-_}
 use mathlib.Core.Path.{_≡_, refl, sym, _∙_}
-use native.Mathlib.Nat.{add-zero, sub-zero}
+use native.Mathlib.Nat.{sub-zero}
 use native.Mathlib.Omega.{arith}
 use borrow.Author.Needs.{needs}
 use lib.ListN.{length}
 use Rattle.scripts.specs.Running.{ran, ran-call, ran-none}
 use Rattle.events.specs.Stream.{state, step}
 use Rattle.event_replay.specs.Script.{form}
+use Rattle.event_replay.specs.ReplayLaws.{note}
 use Rattle.event_replay.proofs.run.Statement.{statement}
 use Rattle.event_replay.proofs.run.Tie as tie
 
@@ -20,63 +21,24 @@ Inv-loop script room₀ opens₀ answers₀ calls stream₀ i₀ room opens answ
 abbrev μ-loop : tie.MeasureT-loop
 μ-loop script room₀ opens₀ answers₀ calls stream₀ i₀ room opens answers stream i = calls - i
 
--- the turn in which the call has come back
-abbrev turn : tie.After-slice-known6 Inv-loop μ-loop → tie.In-loop Inv-loop μ-loop
-turn c = c .before .before .before .before .before .before .before .before .before .before .before .before .before .before
+-- the turn in which the answer is noted
+abbrev turn : tie.After-stream Inv-loop μ-loop → tie.In-loop Inv-loop μ-loop
+turn c = c .before .before .before .before .before .before .before .before .before .before .before .before .before
 
 loop-holds : tie.Need-loop-holds Inv-loop μ-loop
 loop-holds c = (omega arith, refl, refl, refl, rw sub-zero)
 
-mul-op : tie.Need-mul-op Inv-loop μ-loop
-mul-op c = search needs
+mul-at : tie.Need-mul-at Inv-loop μ-loop
+mul-at c = search needs
 
-mul-op-2 : tie.Need-mul-op-2 Inv-loop μ-loop
-mul-op-2 c = search needs
-
-shared-slice-read-op : tie.Need-shared-slice-read-op Inv-loop μ-loop
-shared-slice-read-op c = search needs
-
-mul-arg : tie.Need-mul-arg Inv-loop μ-loop
-mul-arg c = search needs
-
-add-arg : tie.Need-add-arg Inv-loop μ-loop
-add-arg c = search needs
-
-mul-arg-2 : tie.Need-mul-arg-2 Inv-loop μ-loop
-mul-arg-2 c = search needs
-
-shared-slice-read-arg : tie.Need-shared-slice-read-arg Inv-loop μ-loop
-shared-slice-read-arg c = search needs
-
-mul-start : tie.Need-mul-start Inv-loop μ-loop
-mul-start c = search needs
-
-add-start : tie.Need-add-start Inv-loop μ-loop
-add-start c = search needs
-
-mul-start-2 : tie.Need-mul-start-2 Inv-loop μ-loop
-mul-start-2 c = search needs
-
-shared-slice-read-start : tie.Need-shared-slice-read-start Inv-loop μ-loop
-shared-slice-read-start c = search needs
-
-mul-end : tie.Need-mul-end Inv-loop μ-loop
-mul-end c = search needs
-
-add-end : tie.Need-add-end Inv-loop μ-loop
-add-end c = search needs
-
-mul-end-2 : tie.Need-mul-end-2 Inv-loop μ-loop
-mul-end-2 c = search needs
-
-shared-slice-read-end : tie.Need-shared-slice-read-end Inv-loop μ-loop
-shared-slice-read-end c = search needs
-
-mul-call : tie.Need-mul-call Inv-loop μ-loop
-mul-call c = search needs
+asked-requires : tie.Need-asked-requires Inv-loop μ-loop
+asked-requires c κs = search needs
 
 call-requires : tie.Need-call-requires Inv-loop μ-loop
 call-requires c κs = search needs
+
+put-requires : tie.Need-put-requires Inv-loop μ-loop
+put-requires c κs = search needs
 
 add-i : tie.Need-add-i Inv-loop μ-loop
 add-i c =
@@ -87,16 +49,18 @@ loop-less c = search needs
 
 loop-again : tie.Need-loop-again Inv-loop μ-loop
 loop-again c =
-    let k = c .before .before .before .before .before .before in
+    let w = c .before .before .before in
+    let k = w .before .before .before .before .before .before in
     let l = turn c .before in
     let s = l .before .before .before .before .before .args in
+    let before = state (l .loop .stream) (l .loop .room) (l .loop .opens) in
     let h : l .loop .i < s .calls = turn c .loop-test .taken in (
       omega arith,
       k .call .kept .1 .0 ∙ l .loop .inv .1,
       k .call .kept .1 .1 .0 ∙ l .loop .inv .2,
-      k .call .kept .1 .1 .1 .0 ∙ l .loop .inv .3,
-      ran-call form step (s .script .now) (l .loop .i) (s .calls) (state (l .loop .stream) (l .loop .room) (l .loop .opens)) (l .loop .answers) h
-          (rw add-zero (k .call .ensures))
+      w .put .kept .0 ∙ l .loop .inv .3,
+      ran-call form step (s .script .now) (l .loop .i) (s .calls) before (l .loop .answers) h
+          (note before (l .loop .answers) _ (k .call .ensures) (k .before .asked .ensures) (w .put .ensures))
           ∙ l .loop .inv .4,
     )
 
@@ -123,23 +87,10 @@ run-spec =
     Inv-loop
     μ-loop
     loop-holds
-    mul-op
-    mul-op-2
-    shared-slice-read-op
-    mul-arg
-    add-arg
-    mul-arg-2
-    shared-slice-read-arg
-    mul-start
-    add-start
-    mul-start-2
-    shared-slice-read-start
-    mul-end
-    add-end
-    mul-end-2
-    shared-slice-read-end
-    mul-call
+    mul-at
+    asked-requires
     call-requires
+    put-requires
     add-i
     loop-less
     loop-again

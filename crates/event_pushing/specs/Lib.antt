@@ -1,0 +1,3 @@
+-- What pushing an event is (Parts), and its answers branch by branch (AnswerLaws).
+pub mod Parts
+pub mod AnswerLaws
