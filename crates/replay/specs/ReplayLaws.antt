@@ -23,13 +23,13 @@ use Rattle.window.specs.declared.DoneGiven.{DoneGiven}
 use Rattle.window.specs.Window.{State, state, step, start, open-of, done-told, done-reply}
 use Rattle.window.specs.Determined.{done-read, done-same}
 use Rattle.demand3.specs.Simulation.{simulated, room-after}
-use Rattle.window_calls.specs.declared.Called.{Called}
-use Rattle.window_calls.specs.Calls.{form, listed, given, replied}
+use Rattle.window_asking.specs.declared.ToldGiven.{ToldGiven}
+use Rattle.window_asking.specs.Asking.{form, told-numbers, told-reply, told-of}
 use Rattle.replay.specs.Script.{lent, replayed}
 
 -- What a call by number gives, and the numbers of its answer written.
-pub note : {y : Reply State} {c : Called} {room before after : List ℕ} {at : ℕ}
-    → given c room ≡ replied y → after ≡ sets before at (listed (c .numbers)) → Noted form at y before (state (c .window) room) after
+pub note : {y : Reply State} {c : ToldGiven} {room before after : List ℕ} {at : ℕ}
+    → told-reply c room ≡ told-of y → after ≡ sets before at (told-numbers (c .told)) → Noted form at y before (state (c .window) room) after
 note {before = before} {at = at} g e =
     record {
       state-after = ap (λ (p : State × List ℕ). p .0) g;

@@ -11,7 +11,7 @@ use Rattle.tokens.specs.Tokens.{ascii}
 use Rattle.scanner.specs.Reading.{source-limit}
 use Rattle.token_record.specs.Record.{refused, done, Reply, reply, opened, bounded}
 use Rattle.token_room.specs.Room.{slots-in, write-all}
-use Rattle.window_calls.specs.Calls.{call-of, form}
+use Rattle.window_asking.specs.Asking.{call-of, form}
 
 -- Every lent number.
 pub record Lent : Type 0 where

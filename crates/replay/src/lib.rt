@@ -6,12 +6,12 @@ ghost use lib.Seq.{sets};
 ghost use Rattle.scripts.specs.Running.{Noted, ran};
 ghost use Rattle.token_record.specs.Record.{reply};
 ghost use Rattle.window.specs.Window.{state, step, done-told};
-ghost use Rattle.window_calls.specs.Calls.{call-of, form, listed};
+ghost use Rattle.window_asking.specs.Asking.{call-of, form, told-numbers};
 ghost use Rattle.replay.specs.Script.{lent, replayed};
 use refusals::DoneAnswer;
 use refusals::Refusal;
 use window::Window;
-use window_calls::Numbers;
+use window_asking::Told;
 
 // Opens a window on the source and runs the calls of the script, two numbers each; a last odd number is none. Their answers, four
 // numbers each, are written one after the other; the numbers behind them stay. Refused, and nothing written, where the source is over the
@@ -69,18 +69,18 @@ fn call(
     requires { ⌜ at + 4 ≤ length (now answers) ⌝ }
     ensures { λ r. ⌜ Noted form at (step (now (src .entry)) (call-of op arg) (state window (now (room .entry)))) (now (answers .entry)) (state r (now (room .exit))) (now (answers .exit)) ⌝ }
 {
-    let called = window_calls::call(window, src, room, op, arg);
-    put(answers, at, called.numbers);
+    let called = window_asking::call(window, src, room, op, arg);
+    put(answers, at, called.told);
     called.window
 }
 
 // Writes four numbers at a place.
-fn put(answers: &mut [u32], at: usize, numbers: Numbers)
+fn put(answers: &mut [u32], at: usize, told: Told)
     requires { ⌜ at + 4 ≤ length (now answers) ⌝ }
-    ensures { λ r. ⌜ now (answers .exit) ≡ sets (now (answers .entry)) at (listed numbers) ⌝ }
+    ensures { λ r. ⌜ now (answers .exit) ≡ sets (now (answers .entry)) at (told-numbers told) ⌝ }
 {
-    answers[at] = numbers.tag;
-    answers[at + 1] = numbers.first;
-    answers[at + 2] = numbers.second;
-    answers[at + 3] = numbers.third;
+    answers[at] = told.tag;
+    answers[at + 1] = told.first;
+    answers[at + 2] = told.second;
+    answers[at + 3] = told.third;
 }

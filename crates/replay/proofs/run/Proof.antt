@@ -8,7 +8,7 @@ use borrow.Author.Needs.{needs}
 use lib.ListN.{length}
 use Rattle.scripts.specs.Running.{ran, ran-call, ran-none}
 use Rattle.window.specs.Window.{state, step}
-use Rattle.window_calls.specs.Calls.{form}
+use Rattle.window_asking.specs.Asking.{form}
 use Rattle.replay.proofs.run.Statement.{statement}
 use Rattle.replay.proofs.run.Tie as tie
 

@@ -1,8 +1,8 @@
 -- The number told is the refusal's.
 -- Assumes nothing.
 use borrow.Author.Needs.{needs}
-use Rattle.window_calls.proofs.refused_numbers.Statement.{statement}
-use Rattle.window_calls.proofs.refused_numbers.Tie as tie
+use Rattle.window_asking.proofs.refused_numbers.Statement.{statement}
+use Rattle.window_asking.proofs.refused_numbers.Tie as tie
 
 number-requires : tie.Need-number-requires
 number-requires c κs = search needs

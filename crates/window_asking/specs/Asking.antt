@@ -9,8 +9,8 @@ use Rattle.scripts.specs.Scripts.{Form}
 use Rattle.token_record.specs.Record.{Call, next-token, peek-token, has-more, bookmark, restore-bookmark, remove-bookmark, current-token-index, enter-hex-pattern-mode, enter-hex-jump-mode, Answer, token, none, truth, index, done, refused, Reply}
 use Rattle.token_room.specs.Room.{nth}
 use Rattle.window.specs.Window.{State, state}
-use Rattle.window_calls.specs.declared.Called.{Called}
-use Rattle.window_calls.specs.declared.Numbers.{Numbers}
+use Rattle.window_asking.specs.declared.ToldGiven.{ToldGiven}
+use Rattle.window_asking.specs.declared.Told.{Told}
 
 -- A call is two numbers: which one, and its argument.
 abbrev pub calls : ℕ → List Call
@@ -50,11 +50,11 @@ abbrev pub form : Form Call Answer
 form = record { call-width = 2; call-of = λ f. call-of (f 0) (f 1); answer-width = 4; numbers = numbers; sized = four }
 
 -- What the code gives, with the room; and a reply, its answer as numbers.
-abbrev pub listed : Numbers → List ℕ
-listed n = n .tag ∷ n .first ∷ n .second ∷ n .third ∷ []
+abbrev pub told-numbers : Told → List ℕ
+told-numbers n = n .tag ∷ n .first ∷ n .second ∷ n .third ∷ []
 
-abbrev pub given : Called → List ℕ → State × List ℕ
-given c room = (state (c .window) room, listed (c .numbers))
+abbrev pub told-reply : ToldGiven → List ℕ → State × List ℕ
+told-reply c room = (state (c .window) room, told-numbers (c .told))
 
-abbrev pub replied : Reply State → State × List ℕ
-replied y = (y .after, numbers (y .answer))
+abbrev pub told-of : Reply State → State × List ℕ
+told-of y = (y .after, numbers (y .answer))

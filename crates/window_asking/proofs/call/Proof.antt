@@ -3,9 +3,9 @@
 use Prim.Native.Nat.{_≤_}
 use borrow.Author.Needs.{needs}
 use native.Mathlib.Omega.{arith}
-use Rattle.window_calls.specs.CallLaws.{call-plain}
-use Rattle.window_calls.proofs.call.Statement.{statement}
-use Rattle.window_calls.proofs.call.Tie as tie
+use Rattle.window_asking.specs.AskingLaws.{call-plain}
+use Rattle.window_asking.proofs.call.Statement.{statement}
+use Rattle.window_asking.proofs.call.Tie as tie
 
 read-requires : tie.Need-read-requires
 read-requires c κs = search needs

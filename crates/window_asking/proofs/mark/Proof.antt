@@ -3,9 +3,9 @@
 use mathlib.Core.Path.{_≡_}
 use borrow.Author.Needs.{needs}
 use native.Mathlib.Omega.{arith}
-use Rattle.window_calls.specs.CallLaws.{call-known, gave}
-use Rattle.window_calls.proofs.mark.Statement.{statement}
-use Rattle.window_calls.proofs.mark.Tie as tie
+use Rattle.window_asking.specs.AskingLaws.{call-known, gave}
+use Rattle.window_asking.proofs.mark.Statement.{statement}
+use Rattle.window_asking.proofs.mark.Tie as tie
 
 bookmark-requires : tie.Need-bookmark-requires
 bookmark-requires c κs = search needs

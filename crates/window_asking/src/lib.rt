@@ -6,8 +6,8 @@ ghost use mathlib.Core.List.{[], _∷_};
 ghost use Rattle.refusals.specs.Refusals.{number-of};
 ghost use Rattle.token_record.specs.Record.{refused};
 ghost use Rattle.window.specs.Window.{state, step, token-told, more-told, index-told, done-told};
-ghost use Rattle.window_calls.specs.Calls.{call-of, numbers, listed, given, replied};
-ghost use Rattle.window_calls.specs.CallLaws.{Told};
+ghost use Rattle.window_asking.specs.Asking.{call-of, numbers, told-numbers, told-reply, told-of};
+ghost use Rattle.window_asking.specs.AskingLaws.{Tells};
 use refusals::DoneAnswer;
 use refusals::Refusal;
 use tokens::TokenIndex;
@@ -21,13 +21,13 @@ use window::TokenGiven;
 use window::Window;
 
 // What a call gives: the window after it, and its answer as numbers.
-pub struct Called {
+pub struct ToldGiven {
     pub window: Window,
-    pub numbers: Numbers,
+    pub told: Told,
 }
 
 // The four numbers of an answer.
-pub struct Numbers {
+pub struct Told {
     pub tag: u32,
     pub first: u32,
     pub second: u32,
@@ -35,8 +35,8 @@ pub struct Numbers {
 }
 
 // One call, by its number: of those that read, that keep bookmarks, or the others.
-pub fn call(window: Window, src: &[u8], room: &mut [u32], op: u32, arg: u32) -> Called
-    ensures { λ r. ⌜ given r (now (room .exit)) ≡ replied (step (now (src .entry)) (call-of op arg) (state window (now (room .entry)))) ⌝ }
+pub fn call(window: Window, src: &[u8], room: &mut [u32], op: u32, arg: u32) -> ToldGiven
+    ensures { λ r. ⌜ told-reply r (now (room .exit)) ≡ told-of (step (now (src .entry)) (call-of op arg) (state window (now (room .entry)))) ⌝ }
 {
     if op < 3 {
         read(window, src, room, op, arg)
@@ -48,9 +48,9 @@ pub fn call(window: Window, src: &[u8], room: &mut [u32], op: u32, arg: u32) -> 
 }
 
 // Next, peek or has_more.
-fn read(window: Window, src: &[u8], room: &mut [u32], op: u32, arg: u32) -> Called
+fn read(window: Window, src: &[u8], room: &mut [u32], op: u32, arg: u32) -> ToldGiven
     requires { ⌜ op < 3 ⌝ }
-    ensures { λ r. ⌜ given r (now (room .exit)) ≡ replied (step (now (src .entry)) (call-of op arg) (state window (now (room .entry)))) ⌝ }
+    ensures { λ r. ⌜ told-reply r (now (room .exit)) ≡ told-of (step (now (src .entry)) (call-of op arg) (state window (now (room .entry)))) ⌝ }
 {
     if op == 0 {
         of_token(window_reading::next_token(window, src, room))
@@ -62,9 +62,9 @@ fn read(window: Window, src: &[u8], room: &mut [u32], op: u32, arg: u32) -> Call
 }
 
 // Bookmark, restore or remove.
-fn mark(window: Window, src: &[u8], room: &[u32], op: u32, index: TokenIndex) -> Called
+fn mark(window: Window, src: &[u8], room: &[u32], op: u32, index: TokenIndex) -> ToldGiven
     requires { ⌜ (3 ≤ op) × (op < 6) ⌝ }
-    ensures { λ r. ⌜ given r (now (room .entry)) ≡ replied (step (now (src .entry)) (call-of op (index .0)) (state window (now (room .entry)))) ⌝ }
+    ensures { λ r. ⌜ told-reply r (now (room .entry)) ≡ told-of (step (now (src .entry)) (call-of op (index .0)) (state window (now (room .entry)))) ⌝ }
 {
     if op == 3 {
         of_index(window_marks::bookmark(window, src, room))
@@ -76,9 +76,9 @@ fn mark(window: Window, src: &[u8], room: &[u32], op: u32, index: TokenIndex) ->
 }
 
 // A switch, or the current index.
-fn other(window: Window, src: &[u8], room: &[u32], op: u32) -> Called
+fn other(window: Window, src: &[u8], room: &[u32], op: u32) -> ToldGiven
     requires { ⌜ 6 ≤ op ⌝ }
-    ensures { λ r. ⌜ given r (now (room .entry)) ≡ replied (step (now (src .entry)) (call-of op 0) (state window (now (room .entry)))) ⌝ }
+    ensures { λ r. ⌜ told-reply r (now (room .entry)) ≡ told-of (step (now (src .entry)) (call-of op 0) (state window (now (room .entry)))) ⌝ }
 {
     if op == 6 {
         of_done(window.enter_hex_pattern_mode(src, room))
@@ -92,50 +92,50 @@ fn other(window: Window, src: &[u8], room: &[u32], op: u32) -> Called
 // Each function `of_..` tells the answer of one kind of call as numbers, beside the window that the call gave.
 
 // Of next and peek.
-fn of_token(given: TokenGiven) -> Called
-    ensures { λ r. ⌜ Told (token-told (given .answer)) (given .window) r ⌝ }
+fn of_token(given: TokenGiven) -> ToldGiven
+    ensures { λ r. ⌜ Tells (token-told (given .answer)) (given .window) r ⌝ }
 {
     let answer = given.answer;
-    let numbers = token_numbers(answer);
+    let told = token_numbers(answer);
     let window = given.window;
-    Called { window, numbers }
+    ToldGiven { window, told }
 }
 
 // Of has_more.
-fn of_more(given: MoreGiven) -> Called
-    ensures { λ r. ⌜ Told (more-told (given .answer)) (given .window) r ⌝ }
+fn of_more(given: MoreGiven) -> ToldGiven
+    ensures { λ r. ⌜ Tells (more-told (given .answer)) (given .window) r ⌝ }
 {
     let answer = given.answer;
-    let numbers = more_numbers(answer);
+    let told = more_numbers(answer);
     let window = given.window;
-    Called { window, numbers }
+    ToldGiven { window, told }
 }
 
 // Of bookmark and the current index.
-fn of_index(given: IndexGiven) -> Called
-    ensures { λ r. ⌜ Told (index-told (given .answer)) (given .window) r ⌝ }
+fn of_index(given: IndexGiven) -> ToldGiven
+    ensures { λ r. ⌜ Tells (index-told (given .answer)) (given .window) r ⌝ }
 {
     let answer = given.answer;
-    let numbers = index_numbers(answer);
+    let told = index_numbers(answer);
     let window = given.window;
-    Called { window, numbers }
+    ToldGiven { window, told }
 }
 
 // Of restore, remove and the switches.
-fn of_done(given: DoneGiven) -> Called
-    ensures { λ r. ⌜ Told (done-told (given .answer)) (given .window) r ⌝ }
+fn of_done(given: DoneGiven) -> ToldGiven
+    ensures { λ r. ⌜ Tells (done-told (given .answer)) (given .window) r ⌝ }
 {
     let answer = given.answer;
-    let numbers = done_numbers(answer);
+    let told = done_numbers(answer);
     let window = given.window;
-    Called { window, numbers }
+    ToldGiven { window, told }
 }
 
 // Each function `.._numbers` gives the four numbers of an answer.
 
 // A token, none, or a refusal.
-fn token_numbers(answer: TokenAnswer) -> Numbers
-    ensures { λ r. ⌜ listed r ≡ numbers (token-told answer) ⌝ }
+fn token_numbers(answer: TokenAnswer) -> Told
+    ensures { λ r. ⌜ told-numbers r ≡ numbers (token-told answer) ⌝ }
 {
     match answer {
         TokenAnswer::Token(token) => four(1, token.kind, token.start.0, token.end.0),
@@ -145,8 +145,8 @@ fn token_numbers(answer: TokenAnswer) -> Numbers
 }
 
 // Whether there is more, or a refusal.
-fn more_numbers(answer: MoreAnswer) -> Numbers
-    ensures { λ r. ⌜ listed r ≡ numbers (more-told answer) ⌝ }
+fn more_numbers(answer: MoreAnswer) -> Told
+    ensures { λ r. ⌜ told-numbers r ≡ numbers (more-told answer) ⌝ }
 {
     match answer {
         MoreAnswer::More(more) => four(2, truth(more), 0, 0),
@@ -155,8 +155,8 @@ fn more_numbers(answer: MoreAnswer) -> Numbers
 }
 
 // An index, or a refusal.
-fn index_numbers(answer: IndexAnswer) -> Numbers
-    ensures { λ r. ⌜ listed r ≡ numbers (index-told answer) ⌝ }
+fn index_numbers(answer: IndexAnswer) -> Told
+    ensures { λ r. ⌜ told-numbers r ≡ numbers (index-told answer) ⌝ }
 {
     match answer {
         IndexAnswer::Index(index) => four(3, index.0, 0, 0),
@@ -165,8 +165,8 @@ fn index_numbers(answer: IndexAnswer) -> Numbers
 }
 
 // Done, or a refusal.
-fn done_numbers(answer: DoneAnswer) -> Numbers
-    ensures { λ r. ⌜ listed r ≡ numbers (done-told answer) ⌝ }
+fn done_numbers(answer: DoneAnswer) -> Told
+    ensures { λ r. ⌜ told-numbers r ≡ numbers (done-told answer) ⌝ }
 {
     match answer {
         DoneAnswer::Done => four(4, 0, 0, 0),
@@ -175,8 +175,8 @@ fn done_numbers(answer: DoneAnswer) -> Numbers
 }
 
 // A refusal, by its number.
-fn refused_numbers(refusal: Refusal) -> Numbers
-    ensures { λ r. ⌜ listed r ≡ numbers (refused (number-of refusal)) ⌝ }
+fn refused_numbers(refusal: Refusal) -> Told
+    ensures { λ r. ⌜ told-numbers r ≡ numbers (refused (number-of refusal)) ⌝ }
 {
     four(5, refusals::number(refusal), 0, 0)
 }
@@ -189,10 +189,10 @@ fn truth(b: bool) -> u32
 }
 
 // Four numbers.
-fn four(tag: u32, first: u32, second: u32, third: u32) -> Numbers
-    ensures { λ r. ⌜ listed r ≡ tag ∷ first ∷ second ∷ third ∷ [] ⌝ }
+fn four(tag: u32, first: u32, second: u32, third: u32) -> Told
+    ensures { λ r. ⌜ told-numbers r ≡ tag ∷ first ∷ second ∷ third ∷ [] ⌝ }
 {
-    Numbers {
+    Told {
         tag,
         first,
         second,

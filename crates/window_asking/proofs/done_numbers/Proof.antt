@@ -1,8 +1,8 @@
 -- The numbers are those of the answer in hand.
 -- Assumes nothing.
 use borrow.Author.Needs.{needs}
-use Rattle.window_calls.proofs.done_numbers.Statement.{statement}
-use Rattle.window_calls.proofs.done_numbers.Tie as tie
+use Rattle.window_asking.proofs.done_numbers.Statement.{statement}
+use Rattle.window_asking.proofs.done_numbers.Tie as tie
 
 enum-told : tie.Need-enum-told
 enum-told c = search needs

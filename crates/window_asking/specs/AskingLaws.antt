@@ -12,8 +12,8 @@ use Rattle.patterns.specs.Determined.{Once, once}
 use Rattle.token_record.specs.Record.{current-token-index, Answer, Reply, reply}
 use Rattle.window.specs.declared.Window.{Window}
 use Rattle.window.specs.Window.{State, state}
-use Rattle.window_calls.specs.declared.Called.{Called}
-use Rattle.window_calls.specs.Calls.{calls, call-of, numbers, listed, given, replied}
+use Rattle.window_asking.specs.declared.ToldGiven.{ToldGiven}
+use Rattle.window_asking.specs.Asking.{calls, call-of, numbers, told-numbers, told-reply, told-of}
 
 -- The call of a number.
 pub call-known : (op arg n : ℕ) → op ≡ n → call-of op arg ≡ getD (calls arg) n current-token-index
@@ -35,20 +35,20 @@ call-plain op arg h =
     (λ e. let k : op < 7 = leb-false _ _ e in let n : op ≡ 6 = omega arith in call-known op arg 6 n ∙ sym (call-known op 0 6 n)))
 
 -- The answer and the window of a call, told; and that this is its reply.
-pub record Told (a : Answer) (w : Window) (c : Called) : Type 0 where
+pub record Tells (a : Answer) (w : Window) (c : ToldGiven) : Type 0 where
   pub window-after : c .window ≡ w
-  pub answer-told : listed (c .numbers) ≡ numbers a
+  pub answer-told : told-numbers (c .told) ≡ numbers a
 
-pub gave : {y : Reply State} {a : Answer} {w : Window} {room : List ℕ} {c : Called} → reply a (state w room) ≡ y → Told a w c → given c room ≡ replied y
+pub gave : {y : Reply State} {a : Answer} {w : Window} {room : List ℕ} {c : ToldGiven} → reply a (state w room) ≡ y → Tells a w c → told-reply c room ≡ told-of y
 gave e t = rw (← e, t .window-after, t .answer-told)
 
-pub given-once : Once (λ (p : Called × List ℕ). given (p .0) (p .1))
-given-once =
+pub told-once : Once (λ (p : ToldGiven × List ℕ). told-reply (p .0) (p .1))
+told-once =
     once _
     (λ q. (
       record {
         window = q .0 .window;
-        numbers = record { tag = getD (q .1) 0 0; first = getD (q .1) 1 0; second = getD (q .1) 2 0; third = getD (q .1) 3 0 };
+        told = record { tag = getD (q .1) 0 0; first = getD (q .1) 1 0; second = getD (q .1) 2 0; third = getD (q .1) 3 0 };
       },
       q .0 .room,
     ))

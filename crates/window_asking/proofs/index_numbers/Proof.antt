@@ -1,8 +1,8 @@
 -- The numbers are those of the answer in hand.
 -- Assumes nothing.
 use borrow.Author.Needs.{needs}
-use Rattle.window_calls.proofs.index_numbers.Statement.{statement}
-use Rattle.window_calls.proofs.index_numbers.Tie as tie
+use Rattle.window_asking.proofs.index_numbers.Statement.{statement}
+use Rattle.window_asking.proofs.index_numbers.Tie as tie
 
 enum-known-answer : tie.Need-enum-known-answer
 enum-known-answer c = search needs

@@ -3,9 +3,9 @@
 use mathlib.Core.Path.{_≡_}
 use borrow.Author.Needs.{needs}
 use native.Mathlib.Omega.{arith}
-use Rattle.window_calls.specs.CallLaws.{call-known, gave}
-use Rattle.window_calls.proofs.read.Statement.{statement}
-use Rattle.window_calls.proofs.read.Tie as tie
+use Rattle.window_asking.specs.AskingLaws.{call-known, gave}
+use Rattle.window_asking.proofs.read.Statement.{statement}
+use Rattle.window_asking.proofs.read.Tie as tie
 
 next-token-requires : tie.Need-next-token-requires
 next-token-requires c κs = search needs

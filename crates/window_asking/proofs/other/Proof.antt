@@ -4,9 +4,9 @@ use Prim.Native.Nat.{_≤_}
 use mathlib.Core.Path.{_≡_}
 use borrow.Author.Needs.{needs}
 use native.Mathlib.Omega.{arith}
-use Rattle.window_calls.specs.CallLaws.{call-known, call-beyond, gave}
-use Rattle.window_calls.proofs.other.Statement.{statement}
-use Rattle.window_calls.proofs.other.Tie as tie
+use Rattle.window_asking.specs.AskingLaws.{call-known, call-beyond, gave}
+use Rattle.window_asking.proofs.other.Statement.{statement}
+use Rattle.window_asking.proofs.other.Tie as tie
 
 enter-hex-pattern-mode-requires : tie.Need-enter-hex-pattern-mode-requires
 enter-hex-pattern-mode-requires c κs = search needs

@@ -1,3 +1,3 @@
 -- The calls and answers as numbers (Calls), and their laws.
-pub mod Calls
-pub mod CallLaws
+pub mod Asking
+pub mod AskingLaws
