@@ -6,7 +6,7 @@ use mathlib.Core.Bool.{cond}
 use mathlib.Core.List.{List}
 use lib.ListN.{length}
 use lib.Dec.{leb}
-use Rattle.refusals.specs.declared.Refusal.the-variants.{SourceTooLong, NoRoom}
+use Rattle.refusals.specs.Refusals.{named}
 use Rattle.tokens.specs.declared.Mode.the-variants.{Normal}
 use Rattle.tokens.specs.Tokens.{ascii, tables-1}
 use Rattle.tokens.specs.Scan.{list-from, tokens}
@@ -26,11 +26,11 @@ outcome a out = record { answer = a; out = out }
 -- a text at the front of `out`, if it fits
 unfoldable pub written : List ℕ → List ℕ → Outcome
 unfolding put
-written t out = cond (leb (length t) (length out)) (outcome (Written (length t)) (put 0 t out)) (outcome (Refused NoRoom) out)
+written t out = cond (leb (length t) (length out)) (outcome (Written (length t)) (put 0 t out)) (outcome (Refused (named 15)) out)
 
 unfoldable pub listed : List ℕ → List ℕ → Outcome
 unfolding text list-from written
-listed src out = cond (leb (length src) source-limit) (written (text (tokens tables-1 Normal src)) out) (outcome (Refused SourceTooLong) out)
+listed src out = cond (leb (length src) source-limit) (written (text (tokens tables-1 Normal src)) out) (outcome (Refused (named 1)) out)
 
 -- Examples: the text at the front of what is lent, just room, and a byte too little.
 in-place : listed (ascii "x=") (ascii "..........................") ≡ outcome (Written 23) (ascii "tokens 2\n72 0 1\n55 1 2\n...")
@@ -41,6 +41,6 @@ just-room : listed (ascii "x=") (ascii ".......................") ≡ outcome (W
 unfolding listed
 just-room = refl
 
-no-room : listed (ascii "x=") (ascii "......................") ≡ outcome (Refused NoRoom) (ascii "......................")
+no-room : listed (ascii "x=") (ascii "......................") ≡ outcome (Refused (named 15)) (ascii "......................")
 unfolding listed
 no-room = refl

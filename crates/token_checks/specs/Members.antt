@@ -1,10 +1,13 @@
--- The Unicode classes by their members: White_Space whole, and the first runs of Nd. Each is computed by the definition itself, over
--- every value up to the last that is named. Assumes nothing.
+-- The Unicode classes by their members: White_Space whole, and the first runs of Nd; and the order of the keywords. Each is computed by the
+-- definition itself, over every value up to the last that is named. Assumes nothing.
+use Prim.Native.Nat.{ℕ}
 use mathlib.Core.Path.{_≡_, refl}
-use mathlib.Core.List.{[], _∷_}
+use mathlib.Core.Bool.{Bool, true, false, _&&_, _||_}
+use mathlib.Core.List.{List, [], _∷_}
+use lib.Dec.{eqb, ltb}
 use Rattle.patterns.specs.Lists.{members}
 use Rattle.tokens.specs.Unicode.{in-runs, digits-16, white}
-use Rattle.tokens.specs.Tokens.{ascii}
+use Rattle.tokens.specs.Tokens.{Spelling, ascii, words-1}
 
 -- White_Space has 25 characters
 white-space : members 0x3100 white
@@ -19,3 +22,19 @@ nd-first : members 0x700 (in-runs digits-16)
     0x669 ∷ 0x668 ∷ 0x667 ∷ 0x666 ∷ 0x665 ∷ 0x664 ∷ 0x663 ∷ 0x662 ∷ 0x661 ∷ 0x660 ∷ ascii "9876543210"
 unfolding members digits-16
 nd-first = refl
+
+-- Whether one spelling comes before another in byte order, and whether each does before the next.
+unfoldable before : List ℕ → List ℕ → Bool
+before xs [] = false
+before [] (y ∷ ys) = true
+before (x ∷ xs) (y ∷ ys) = ltb x y || (eqb x y && before xs ys)
+
+unfoldable in-byte-order : List Spelling → Bool
+unfolding before
+in-byte-order [] = true
+in-byte-order (v ∷ []) = true
+in-byte-order (v ∷ w ∷ ws) = before (v .bytes) (w .bytes) && in-byte-order (w ∷ ws)
+
+keywords-in-order : in-byte-order words-1 ≡ true
+unfolding words-1 in-byte-order
+keywords-in-order = refl

@@ -92,8 +92,13 @@ characters : map (one-token Normal) ((0xC2 ∷ 0xA0 ∷ 0xE2 ∷ 0x80 ∷ 0x83 �
 unfolding one-token
 characters = refl
 
--- a byte that is no UTF-8 may stand in a block comment of normal mode and not in one of pattern mode
-ill-formed : one-token Normal (0x2F ∷ 0x2A ∷ 0xFF ∷ 0x2A ∷ 0x2F ∷ []) ∷ one-token HexPattern (0x2F ∷ 0x2A ∷ 0xFF ∷ 0x2A ∷ 0x2F ∷ []) ∷ [] ≡ 77 ∷ 0 ∷ []
+-- a byte that is no UTF-8 may stand in a block comment of normal mode and not in one of pattern mode, and in a line comment of both
+ill-formed : one-token Normal (0x2F ∷ 0x2A ∷ 0xFF ∷ 0x2A ∷ 0x2F ∷ [])
+    ∷ one-token HexPattern (0x2F ∷ 0x2A ∷ 0xFF ∷ 0x2A ∷ 0x2F ∷ [])
+    ∷ one-token Normal (0x2F ∷ 0x2F ∷ 0xFF ∷ [])
+    ∷ one-token HexPattern (0x2F ∷ 0x2F ∷ 0xFF ∷ [])
+    ∷ []
+    ≡ 77 ∷ 0 ∷ 77 ∷ 77 ∷ []
 unfolding one-token
 ill-formed = refl
 

@@ -113,9 +113,6 @@ unfoldable pub list-from : Tables → List ℕ → ℕ → Mode → Listing
 unfolding list-first
 list-from t src at m = list-first (length src) t src at m
 
--- the tokens of a source, and how many they are
+-- the tokens of a source
 abbrev pub tokens : Tables → Mode → List ℕ → List Token
 tokens t m src = (list-from t src 0 m) .tokens
-
-abbrev pub total : Tables → Mode → List ℕ → ℕ
-total t m src = length (tokens t m src)

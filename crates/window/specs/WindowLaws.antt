@@ -1,8 +1,8 @@
--- How a call is answered: refused by 24 where the window is not sound; else at once, where it wants no token. For fetching nothing changes
--- nothing. Assumes nothing.
+-- How a call is answered: refused by 24 where the window is not sound; else at once, where it wants no token, for fetching nothing changes
+-- nothing. A switch to the mode in force changes nothing, and has_more goes peek's way. Assumes nothing.
 use Prim.Native.Nat.{ℕ, _+_, _-_, _≤_}
-use mathlib.Core.Path.{_≡_, sym, _∙_}
-use mathlib.Core.Bool.{false, cond}
+use mathlib.Core.Path.{_≡_, refl, sym, _∙_}
+use mathlib.Core.Bool.{true, false, cond}
 use mathlib.Core.List.{List}
 use native.Mathlib.Omega.{arith}
 use native.Mathlib.Nat.{add-zero}
@@ -14,11 +14,11 @@ use Rattle.refusals.specs.declared.Refusal.the-variants.{NotAsOpened}
 use Rattle.scanner.specs.declared.Reader.{Reader}
 use Rattle.scanner.specs.Reading.{entered}
 use Rattle.scanner.specs.Following.{ahead-none}
-use Rattle.token_record.specs.Record.{Call, done, refused, reply, wants}
+use Rattle.token_record.specs.Record.{Call, peek-token, has-more, Answer, token, none, truth, done, index, refused, Reply, reply, wants}
 use Rattle.token_room.specs.Room.{write-all}
 use Rattle.window.specs.declared.Window.{Window}
 use Rattle.window.specs.declared.DoneGiven.{DoneGiven}
-use Rattle.window.specs.Window.{State, sound, read-on, switched, fetch, with-window, answered, step, done-reply}
+use Rattle.window.specs.Window.{State, sound, read-on, switched, more, fetch, with-window, answered, overfull, step, done-reply}
 use Rattle.window.specs.SoundLaws.{Fit, fit, fit-sound}
 
 module _ (src : List ℕ) (s : State) where
@@ -54,3 +54,29 @@ module _ (src : List ℕ) (s : State) (r : Reader) where
       by-test (sound (length src) (length (s .room)) (s .window))
       (λ p. rw (p, f) (sym a ∙ answered-now src s c e (fit _ _ _ p)))
       (λ p. rw p (not-sound src s c p))
+
+-- A switch to the mode already in force does nothing.
+pub switched-same : (w : Window) → switched (w .reader .mode) w ≡ w
+switched-same w = refl
+
+-- Has_more says whether peek 0 would give a token, and fetches and refuses as peek 0 does.
+abbrev pub would-give : Answer → Answer
+would-give (token x) = truth true
+would-give none = truth false
+would-give done = done
+would-give (truth b) = truth b
+would-give (index i) = index i
+would-give (refused n) = refused n
+
+pub more-as-peek : (src : List ℕ) (s : State)
+    → let peeked = step src (peek-token 0) s in
+    step src has-more s ≡ reply (would-give (peeked .answer)) (peeked .after)
+unfolding step answered
+more-as-peek src s =
+    let v = fetch src 1 s in
+    let z : v .window .current .0 + 0 ≡ v .window .current .0 = omega arith in
+    by-test (sound (length src) (length (s .room)) (s .window))
+    (λ e. by-test (overfull has-more v)
+    (λ f. rw (e, f))
+    (λ f. by-test (more (v .window)) (λ g. rw (e, f, z, g)) (λ g. rw (e, f, z, g))))
+    (λ e. rw e)
