@@ -1,14 +1,13 @@
 // Replays recorded calls of the Rust's window, and counts the sequences in which the window answers otherwise.
 //
 // A record is a line: the source in hexadecimal; then, for each call, `;`, the call, `=` and the Rust's answer, in the words of the
-// driver that recorded them. Each is replayed with ample room, where every answer must be the Rust's; and with 0 to 8 slots, where every
+// driver that recorded them. Each is replayed by the C function `rattle_window`: with ample room, where every answer must be the Rust's; and with 0 to 8 slots, where every
 // answer must be up to the first refusal 2. A line that is no record counts as one that differs.
 ghost use Prim.Native.Nat.{_≤_};
 use libc::STDERR_FILENO;
 use libc::STDIN_FILENO;
 use libc::STDOUT_FILENO;
 use lines::Upto;
-use refusals::DoneAnswer;
 
 // A call by its number and its argument, and the place of its answer.
 enum Asked {
@@ -202,10 +201,7 @@ fn replay_in(slots: usize, src: &[u8], script: &[u32], answers: &mut [u32]) -> b
     if slots > 4096 {
         return false;
     }
-    match replay::replay(src, script, &mut room[..slots * 3], answers) {
-        DoneAnswer::Done => true,
-        DoneAnswer::Refused(_) => false,
-    }
+    exports::rattle_window(src, script, &mut room[..slots * 3], answers) == 0
 }
 
 // How many answers are the recorded ones with so many slots; and whether these are all up to the first refusal 2.

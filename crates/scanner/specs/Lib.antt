@@ -1,5 +1,4 @@
 -- What the calls of a reader promise, and the laws by which they are met.
 pub mod Reading
-pub mod Choosing
 pub mod ReaderLaws
 pub mod Following

@@ -14,7 +14,7 @@ use Rattle.tokens.specs.ScanLaws.{scan-end}
 use Rattle.scanner.specs.declared.Reader.{Reader}
 use Rattle.scanner.specs.declared.Scan.the-variants.{End, Refused}
 use Rattle.scanner.specs.Reading.{source-limit, moved, scan-of, entered}
-use Rattle.scanner.specs.Choosing.{scan-chosen}
+use Rattle.choosing.specs.Choosing.{scan-chosen}
 
 module _ (s : List ℕ) (r : Reader) where
   pub too-long : source-limit < length s → Refused NotAsOpened ≡ scan-of s r

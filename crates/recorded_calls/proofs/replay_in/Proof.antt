@@ -19,29 +19,17 @@ mul-room c = search needs
 array-borrow-prefix-room : tie.Need-array-borrow-prefix-room
 array-borrow-prefix-room c = search needs
 
-slice-aggregate-replay : tie.Need-slice-aggregate-replay
-slice-aggregate-replay c = sym (length-take-le _ _ (omega (arith, c .before .before .token-room .ok)))
+slice-aggregate-rattle-window : tie.Need-slice-aggregate-rattle-window
+slice-aggregate-rattle-window c = sym (length-take-le _ _ (omega (arith, c .before .before .token-room .ok)))
 
-replay-requires : tie.Need-replay-requires
-replay-requires c κs = search needs
-
-enum-told : tie.Need-enum-told
-enum-told c = search needs
-
-enum-told-2 : tie.Need-enum-told-2
-enum-told-2 c = search needs
+rattle-window-requires : tie.Need-rattle-window-requires
+rattle-window-requires c κs = search needs
 
 same-length : tie.Need-same-length
 same-length c = search needs
 
 returns-2 : tie.Need-returns-2
 returns-2 c = search needs
-
-same-length-2 : tie.Need-same-length-2
-same-length-2 c = search needs
-
-returns-3 : tie.Need-returns-3
-returns-3 c = search needs
 
 pub replay-in-spec : {M : Type 1} → statement M
 replay-in-spec =
@@ -51,11 +39,7 @@ replay-in-spec =
     returns
     mul-room
     array-borrow-prefix-room
-    slice-aggregate-replay
-    replay-requires
-    enum-told
-    enum-told-2
+    slice-aggregate-rattle-window
+    rattle-window-requires
     same-length
-    returns-2
-    same-length-2
-    returns-3)
+    returns-2)

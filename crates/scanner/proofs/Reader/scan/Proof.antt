@@ -4,7 +4,7 @@ use Prim.Native.Nat.{_+_, _≤_}
 use native.Mathlib.Omega.{arith}
 use lib.ListN.{length}
 use Rattle.tokens.specs.Tokens.{tables-1}
-use Rattle.scanner.specs.Choosing.{choice-within}
+use Rattle.choosing.specs.Choosing.{choice-within}
 use Rattle.scanner.specs.ReaderLaws.{too-long, past-source, at-end, token-found}
 use borrow.Author.Needs.{needs}
 use Rattle.scanner.proofs.Reader.scan.Statement.{statement}

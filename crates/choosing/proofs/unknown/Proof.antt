@@ -7,8 +7,8 @@ use Rattle.tokens.specs.declared.Mode.the-variants.{Normal}
 use Rattle.tokens.specs.Kinds.{UNKNOWN}
 use Rattle.tokens.specs.Scan.{chosen}
 use borrow.Author.Needs.{needs}
-use Rattle.scanner.proofs.unknown.Statement.{statement}
-use Rattle.scanner.proofs.unknown.Tie as tie
+use Rattle.choosing.proofs.unknown.Statement.{statement}
+use Rattle.choosing.proofs.unknown.Tie as tie
 
 plain-text-requires : tie.Need-plain-text-requires
 plain-text-requires c κs = search needs

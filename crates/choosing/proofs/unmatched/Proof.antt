@@ -3,10 +3,10 @@
 use mathlib.Core.Path.{sym, _∙_}
 use lib.ListN.{drop}
 use Rattle.tokens.specs.Tokens.{tables-1}
-use Rattle.scanner.specs.Choosing.{broken-byte, unknown-text}
+use Rattle.choosing.specs.Choosing.{broken-byte, unknown-text}
 use borrow.Author.Needs.{needs}
-use Rattle.scanner.proofs.unmatched.Statement.{statement}
-use Rattle.scanner.proofs.unmatched.Tie as tie
+use Rattle.choosing.proofs.unmatched.Statement.{statement}
+use Rattle.choosing.proofs.unmatched.Tie as tie
 
 decode-at-requires : tie.Need-decode-at-requires
 decode-at-requires c κs = search needs

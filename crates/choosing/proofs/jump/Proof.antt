@@ -6,10 +6,10 @@ use lib.ListN.{drop}
 use Rattle.tokens.specs.declared.Mode.the-variants.{HexPattern, HexJump}
 use Rattle.tokens.specs.Tokens.{tables-1}
 use Rattle.tokens.specs.Scan.{tried}
-use Rattle.scanner.specs.Choosing.{hit-taken, next-tried}
+use Rattle.choosing.specs.Choosing.{hit-taken, next-tried}
 use borrow.Author.Needs.{needs}
-use Rattle.scanner.proofs.jump.Statement.{statement}
-use Rattle.scanner.proofs.jump.Tie as tie
+use Rattle.choosing.proofs.jump.Statement.{statement}
+use Rattle.choosing.proofs.jump.Tie as tie
 
 jump-requires : tie.Need-jump-requires
 jump-requires c κs = search needs

@@ -6,8 +6,8 @@ use Rattle.tokens.specs.declared.Mode.{Mode}
 use Rattle.tokens.specs.Tokens.{tables-1}
 use Rattle.tokens.specs.Scan.{tried, choose}
 use borrow.Author.Needs.{needs}
-use Rattle.scanner.proofs.taken.Statement.{statement}
-use Rattle.scanner.proofs.taken.Tie as tie
+use Rattle.choosing.proofs.taken.Statement.{statement}
+use Rattle.choosing.proofs.taken.Tie as tie
 
 enum-told : tie.Need-enum-told
 enum-told c = search needs

@@ -6,10 +6,10 @@ use lib.ListN.{drop}
 use Rattle.tokens.specs.declared.Mode.the-variants.{Normal, HexPattern}
 use Rattle.tokens.specs.Tokens.{tables-1}
 use Rattle.tokens.specs.Scan.{tried}
-use Rattle.scanner.specs.Choosing.{hit-taken, next-tried}
+use Rattle.choosing.specs.Choosing.{hit-taken, next-tried}
 use borrow.Author.Needs.{needs}
-use Rattle.scanner.proofs.pattern.Statement.{statement}
-use Rattle.scanner.proofs.pattern.Tie as tie
+use Rattle.choosing.proofs.pattern.Statement.{statement}
+use Rattle.choosing.proofs.pattern.Tie as tie
 
 pattern-requires : tie.Need-pattern-requires
 pattern-requires c κs = search needs

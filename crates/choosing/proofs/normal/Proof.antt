@@ -6,10 +6,10 @@ use mathlib.Core.List.{[]}
 use lib.ListN.{drop}
 use Rattle.tokens.specs.declared.Mode.the-variants.{Normal}
 use Rattle.tokens.specs.Tokens.{tables-1}
-use Rattle.scanner.specs.Choosing.{hit-taken, next-tried}
+use Rattle.choosing.specs.Choosing.{hit-taken, next-tried}
 use borrow.Author.Needs.{needs}
-use Rattle.scanner.proofs.normal.Statement.{statement}
-use Rattle.scanner.proofs.normal.Tie as tie
+use Rattle.choosing.proofs.normal.Statement.{statement}
+use Rattle.choosing.proofs.normal.Tie as tie
 
 normal-requires : tie.Need-normal-requires
 normal-requires c κs = search needs

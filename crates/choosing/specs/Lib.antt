@@ -1,0 +1,2 @@
+-- From the longest match of a mode to the token.
+pub mod Choosing
