@@ -1,8 +1,9 @@
 // Replays recorded calls of the Rust's window, and counts the sequences in which the window answers otherwise.
 //
 // A record is a line: the source in hexadecimal; then, for each call, `;`, the call, `=` and the Rust's answer, in the words of the
-// driver that recorded them. Each is replayed by the C function `rattle_window`: with ample room, where every answer must be the Rust's; and with 0 to 8 slots, where every
-// answer must be up to the first refusal 2. A line that is no record counts as one that differs.
+// driver that recorded them. Each is replayed by the C function `rattle_window`: with ample room, where every answer must be the
+// Rust's; and with 0 to 8 slots, where every answer must be up to the first refusal 2. A line that is no record counts as one that
+// differs.
 ghost use Prim.Native.Nat.{_≤_};
 use libc::STDERR_FILENO;
 use libc::STDIN_FILENO;
