@@ -4,9 +4,9 @@ use mathlib.Core.Path.{_≡_, sym, ap, _∙_}
 use borrow.Author.Needs.{needs}
 use Rattle.fetching.specs.declared.Fetched.{Fetched}
 use Rattle.fetching.specs.Fetching.{outcome, fetched}
-use Rattle.window_reading.specs.Reaching.{gathered}
-use Rattle.window_reading.proofs.gather.Statement.{statement}
-use Rattle.window_reading.proofs.gather.Tie as tie
+use Rattle.window_reaching.specs.Parts.{gathered}
+use Rattle.window_reaching.proofs.gather.Statement.{statement}
+use Rattle.window_reaching.proofs.gather.Tie as tie
 
 fetch-requires : tie.Need-fetch-requires
 fetch-requires c κs = search needs

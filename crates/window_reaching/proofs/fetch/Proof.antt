@@ -7,11 +7,11 @@ use borrow.Author.Needs.{needs}
 use native.Mathlib.Omega.{arith}
 use Rattle.window.specs.Window.{state, kept, done-reply}
 use Rattle.window.specs.SoundLaws.{kept-in-order}
-use Rattle.window_reading.specs.declared.Reached.{Reached}
-use Rattle.window_reading.specs.Reaching.{reached}
-use Rattle.window_reading.specs.ReachingLaws.{reached-now, reached-by}
-use Rattle.window_reading.proofs.fetch.Statement.{statement}
-use Rattle.window_reading.proofs.fetch.Tie as tie
+use Rattle.window_reaching.specs.declared.Reached.{Reached}
+use Rattle.window_reaching.specs.Parts.{reached}
+use Rattle.window_reaching.specs.ReachingLaws.{reached-now, reached-by}
+use Rattle.window_reaching.proofs.fetch.Statement.{statement}
+use Rattle.window_reaching.proofs.fetch.Tie as tie
 
 sub-ready : tie.Need-sub-ready
 sub-ready c = search needs
