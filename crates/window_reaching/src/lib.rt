@@ -28,7 +28,7 @@ struct Reached {
 pub fn reach(window: Window, src: &[u8], room: &mut [u32], n: usize) -> DoneGiven
     ensures { λ r. ⌜ done-reply r (now (room .exit)) ≡ reach (now (src .entry)) (suc n) (state window (now (room .entry))) ⌝ }
 {
-    if !window.is_sound(src.len(), room.len()) {
+    if !window_tests::is_sound(window, src.len(), room.len()) {
         return DoneGiven {
             answer: DoneAnswer::Refused(Refusal::NotAsOpened),
             window,
@@ -53,7 +53,7 @@ fn fetch(window: Window, src: &[u8], room: &mut [u32], n: usize) -> Reached
     }
     let reader = window.reader;
     let first = window.fetched;
-    let spare = window.slots - window.kept();
+    let spare = window.slots - window_tests::kept(window);
     gather(src, reader, room, first, needed(n - ready), spare)
 }
 

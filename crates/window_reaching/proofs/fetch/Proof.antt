@@ -6,7 +6,7 @@ use mathlib.Core.List.{List}
 use borrow.Author.Needs.{needs}
 use native.Mathlib.Omega.{arith}
 use Rattle.window.specs.Window.{state, kept, done-reply}
-use Rattle.window.specs.SoundLaws.{kept-in-order}
+use Rattle.window_tests.specs.TestLaws.{kept-in-order}
 use Rattle.window_reaching.specs.declared.Reached.{Reached}
 use Rattle.window_reaching.specs.Parts.{reached}
 use Rattle.window_reaching.specs.ReachingLaws.{reached-now, reached-by}

@@ -2,8 +2,8 @@
 -- Assumes nothing.
 use borrow.Author.Needs.{needs}
 use borrow.Author.Tests.{lt-leb, le-leb, ne-eqb, eq-eqb}
-use Rattle.window.proofs.is_as_opened.Statement.{statement}
-use Rattle.window.proofs.is_as_opened.Tie as tie
+use Rattle.window_tests.proofs.is_as_opened.Statement.{statement}
+use Rattle.window_tests.proofs.is_as_opened.Tie as tie
 
 returns : tie.Need-returns
 returns c = rw (lt-leb _ _ (c .if1 .taken))

@@ -5,8 +5,8 @@ use mathlib.Core.Path.{_≡_, ap}
 use borrow.Author.Needs.{needs}
 use native.Mathlib.Omega.{arith}
 use Rattle.tokens.specs.declared.TokenIndex.{TokenIndex}
-use Rattle.window.proofs.Window.kept.Statement.{statement}
-use Rattle.window.proofs.Window.kept.Tie as tie
+use Rattle.window_tests.proofs.kept.Statement.{statement}
+use Rattle.window_tests.proofs.kept.Tie as tie
 
 element-copy-out-first : tie.Need-element-copy-out-first
 element-copy-out-first c = search needs

@@ -3,9 +3,9 @@
 use mathlib.Core.Path.{sym, ap, _∙_}
 use borrow.Author.Needs.{needs}
 use Rattle.refusals.specs.declared.DoneAnswer.the-variants.{Done}
 use Rattle.window.specs.declared.Window.{Window}
-use Rattle.window.proofs.switch.Statement.{statement}
-use Rattle.window.proofs.switch.Tie as tie
+use Rattle.window_modes.proofs.switch.Statement.{statement}
+use Rattle.window_modes.proofs.switch.Tie as tie
 
 is-sound-requires : tie.Need-is-sound-requires
 is-sound-requires c κs = search needs

@@ -2,8 +2,8 @@
 -- Assumes nothing.
 use borrow.Author.Needs.{needs}
 use borrow.Author.Tests.{lt-leb, le-leb}
-use Rattle.window.proofs.is_placed.Statement.{statement}
-use Rattle.window.proofs.is_placed.Tie as tie
+use Rattle.window_tests.proofs.is_placed.Statement.{statement}
+use Rattle.window_tests.proofs.is_placed.Tie as tie
 
 returns : tie.Need-returns
 returns c = rw (lt-leb _ _ (c .if1 .taken))
