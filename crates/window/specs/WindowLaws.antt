@@ -1,25 +1,19 @@
 -- How a call is answered: refused by 24 where the window is not sound; else at once, where it wants no token, for fetching nothing changes
 -- nothing. A switch to the mode in force changes nothing, and has_more goes peek's way. Assumes nothing.
 use Prim.Native.Nat.{ℕ, _+_, _-_, _≤_}
-use mathlib.Core.Path.{_≡_, refl, sym, _∙_}
-use mathlib.Core.Bool.{true, false, cond}
+use mathlib.Core.Path.{_≡_, refl}
+use mathlib.Core.Bool.{true, false}
 use mathlib.Core.List.{List}
 use native.Mathlib.Omega.{arith}
 use native.Mathlib.Nat.{add-zero}
 use lib.ListN.{length}
 use Rattle.patterns.specs.Bools.{by-test}
-use Rattle.tokens.specs.declared.Mode.{Mode}
-use Rattle.refusals.specs.declared.DoneAnswer.the-variants as of-done
-use Rattle.refusals.specs.declared.Refusal.the-variants.{NotAsOpened}
-use Rattle.scanner.specs.declared.Reader.{Reader}
-use Rattle.scanner.specs.Reading.{entered}
 use Rattle.scanner.specs.Following.{ahead-none}
-use Rattle.token_record.specs.Record.{Call, peek-token, has-more, Answer, token, none, truth, done, index, refused, Reply, reply, wants}
+use Rattle.token_record.specs.Record.{Call, peek-token, has-more, Answer, token, none, truth, done, index, refused, reply, wants}
 use Rattle.token_room.specs.Room.{write-all}
 use Rattle.window.specs.declared.Window.{Window}
-use Rattle.window.specs.declared.DoneGiven.{DoneGiven}
-use Rattle.window.specs.Window.{State, sound, read-on, switched, more, fetch, with-window, answered, overfull, step, done-reply}
-use Rattle.window.specs.SoundLaws.{Fit, fit, fit-sound}
+use Rattle.window.specs.Window.{State, sound, switched, more, fetch, answered, overfull, step}
+use Rattle.window.specs.SoundLaws.{Fit, fit-sound}
 
 module _ (src : List ℕ) (s : State) where
   pub fetch-none : (n : ℕ) → s .window .current .0 + n ≤ s .window .fetched .0 → fetch src n s ≡ s
@@ -38,22 +32,6 @@ module _ (src : List ℕ) (s : State) where
   unfolding step
   answered-now c e f =
       rw (fit-sound (length src) (length (s .room)) (s .window) f, e, fetch-none 0 (omega (arith, f .current-low)))
-
--- A switch: 24, or the window with the reader switched.
-abbrev pub switch : ℕ → ℕ → Reader → Window → DoneGiven
-switch bytes len r w =
-    cond (sound bytes len w) (record { answer = of-done.Done; window = read-on r (w .fetched .0) w })
-    (record { answer = of-done.Refused NotAsOpened; window = w })
-
--- The switches: 24, or the reader's own where it stands.
-module _ (src : List ℕ) (s : State) (r : Reader) where
-  pub switches : (c : Call) (m : Mode) → wants c ≡ 0 → (answered c s ≡ reply done (with-window s (switched m (s .window))))
-      → r ≡ entered m (s .window .reader)
-      → done-reply (switch (length src) (length (s .room)) r (s .window)) (s .room) ≡ step src c s
-  switches c m e a f =
-      by-test (sound (length src) (length (s .room)) (s .window))
-      (λ p. rw (p, f) (sym a ∙ answered-now src s c e (fit _ _ _ p)))
-      (λ p. rw p (not-sound src s c p))
 
 -- A switch to the mode already in force does nothing.
 pub switched-same : (w : Window) → switched (w .reader .mode) w ≡ w

@@ -81,11 +81,11 @@ fn other(window: Window, src: &[u8], room: &[u32], op: u32) -> ToldGiven
     ensures { λ r. ⌜ told-reply r (now (room .entry)) ≡ told-of (step (now (src .entry)) (call-of op 0) (state window (now (room .entry)))) ⌝ }
 {
     if op == 6 {
-        of_done(window.enter_hex_pattern_mode(src, room))
+        of_done(window_modes::enter_hex_pattern_mode(window, src, room))
     } else if op == 7 {
-        of_done(window.enter_hex_jump_mode(src, room))
+        of_done(window_modes::enter_hex_jump_mode(window, src, room))
     } else {
-        of_index(window.current_token_index(src, room))
+        of_index(window_modes::current_token_index(window, src, room))
     }
 }
 

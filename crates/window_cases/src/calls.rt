@@ -90,9 +90,9 @@ fn moving(w: Window, asked: Asked, src: &[u8], room: &[u32]) -> Window {
         b'b' => index_given(w, window_marks::bookmark(w, src, room)),
         b'r' => done_given(w, window_marks::restore_bookmark(w, src, room, mark)),
         b'd' => done_given(w, window_marks::remove_bookmark(w, src, room, mark)),
-        b'i' => index_given(w, w.current_token_index(src, room)),
-        b'h' => done_given(w, w.enter_hex_pattern_mode(src, room)),
-        _ => done_given(w, w.enter_hex_jump_mode(src, room)),
+        b'i' => index_given(w, window_modes::current_token_index(w, src, room)),
+        b'h' => done_given(w, window_modes::enter_hex_pattern_mode(w, src, room)),
+        _ => done_given(w, window_modes::enter_hex_jump_mode(w, src, room)),
     }
 }
 

@@ -15,7 +15,7 @@ use window::Window;
 pub fn bookmark(window: Window, src: &[u8], room: &[u32]) -> IndexGiven
     ensures { λ r. ⌜ index-reply r (now (room .entry)) ≡ step (now (src .entry)) bookmark (state window (now (room .entry))) ⌝ }
 {
-    if !window.is_sound(src.len(), room.len()) {
+    if !window_tests::is_sound(window, src.len(), room.len()) {
         return IndexGiven {
             answer: IndexAnswer::Refused(Refusal::NotAsOpened),
             window,
@@ -43,7 +43,7 @@ pub fn bookmark(window: Window, src: &[u8], room: &[u32]) -> IndexGiven
 pub fn restore_bookmark(window: Window, src: &[u8], room: &[u32], mark: TokenIndex) -> DoneGiven
     ensures { λ r. ⌜ done-reply r (now (room .entry)) ≡ step (now (src .entry)) (restore-bookmark mark) (state window (now (room .entry))) ⌝ }
 {
-    if !window.is_sound(src.len(), room.len()) {
+    if !window_tests::is_sound(window, src.len(), room.len()) {
         return DoneGiven {
             answer: DoneAnswer::Refused(Refusal::NotAsOpened),
             window,
@@ -68,7 +68,7 @@ pub fn restore_bookmark(window: Window, src: &[u8], room: &[u32], mark: TokenInd
 pub fn remove_bookmark(window: Window, src: &[u8], room: &[u32], mark: TokenIndex) -> DoneGiven
     ensures { λ r. ⌜ done-reply r (now (room .entry)) ≡ step (now (src .entry)) (remove-bookmark mark) (state window (now (room .entry))) ⌝ }
 {
-    if !window.is_sound(src.len(), room.len()) {
+    if !window_tests::is_sound(window, src.len(), room.len()) {
         return DoneGiven {
             answer: DoneAnswer::Refused(Refusal::NotAsOpened),
             window,

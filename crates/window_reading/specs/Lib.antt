@@ -1,3 +1,3 @@
--- How a call of the window reaches the tokens that it wants (Reaching), and the laws by which the calls are met.
-pub mod Reaching
-pub mod ReachingLaws
+-- How a call of the window goes on from the tokens that it has reached (Proceeding), and the laws by which the calls are met.
+pub mod Proceeding
+pub mod ProceedingLaws

@@ -1,18 +1,9 @@
-// The window's tokens: the next one, those ahead of it, and whether there are more. Each call fetches what it wants of the source.
-ghost use Prim.Native.Nat.{suc, min, _+_, _≤_};
+// The window's tokens: the next one, those ahead of it, and whether there are more. Each call first reaches what it wants of the source.
+ghost use Prim.Native.Nat.{_≤_};
 ghost use mathlib.Core.Path.{_≡_};
-ghost use lib.ListN.{length};
-ghost use Rattle.scanner.specs.Reading.{source-limit};
 ghost use Rattle.token_record.specs.Record.{next-token, peek-token, has-more};
-ghost use Rattle.fetching.specs.Fetching.{fetched};
-ghost use Rattle.window.specs.Window.{state, seen, past, step, token-told, token-reply, more-reply, done-reply};
-ghost use Rattle.window.specs.SoundLaws.{Fit};
-ghost use Rattle.window_reading.specs.Reaching.{reached, still, gathered, reach};
-use fetching::Fetched;
+ghost use Rattle.window.specs.Window.{state, seen, past, step, token-told, token-reply, more-reply};
 use refusals::DoneAnswer;
-use refusals::Refusal;
-use scanner::Reader;
-use scanner::SOURCE_LIMIT;
 use tokens::TokenIndex;
 use window::MoreAnswer;
 use window::MoreGiven;
@@ -20,20 +11,13 @@ use window::TokenAnswer;
 use window::TokenGiven;
 use window::Window;
 
-// What reaching a token comes to: whether it was refused, and the reader and the number of tokens fetched after it.
-struct Reached {
-    answer: DoneAnswer,
-    reader: Reader,
-    fetched: TokenIndex,
-}
-
 // The current token, and on to the next one.
 pub fn next_token(window: Window, src: &[u8], room: &mut [u32]) -> TokenGiven
     ensures { λ r. ⌜ token-reply r (now (room .exit)) ≡ step (now (src .entry)) next-token (state window (now (room .entry))) ⌝ }
 {
-    let reached = reach(window, src, room, 0);
-    let after = window.read_on(reached.reader, reached.fetched);
+    let reached = window_reaching::reach(window, src, room, 0);
     let answer = reached.answer;
+    let after = reached.window;
     match answer {
         DoneAnswer::Done => TokenGiven {
             answer: look(after.current, after.fetched, room, 0),
@@ -50,9 +34,9 @@ pub fn next_token(window: Window, src: &[u8], room: &mut [u32]) -> TokenGiven
 pub fn peek_token(window: Window, src: &[u8], room: &mut [u32], n: usize) -> TokenGiven
     ensures { λ r. ⌜ token-reply r (now (room .exit)) ≡ step (now (src .entry)) (peek-token n) (state window (now (room .entry))) ⌝ }
 {
-    let reached = reach(window, src, room, n);
-    let after = window.read_on(reached.reader, reached.fetched);
+    let reached = window_reaching::reach(window, src, room, n);
     let answer = reached.answer;
+    let after = reached.window;
     match answer {
         DoneAnswer::Done => TokenGiven {
             answer: look(after.current, after.fetched, room, n),
@@ -69,9 +53,9 @@ pub fn peek_token(window: Window, src: &[u8], room: &mut [u32], n: usize) -> Tok
 pub fn has_more(window: Window, src: &[u8], room: &mut [u32]) -> MoreGiven
     ensures { λ r. ⌜ more-reply r (now (room .exit)) ≡ step (now (src .entry)) has-more (state window (now (room .entry))) ⌝ }
 {
-    let reached = reach(window, src, room, 0);
-    let after = window.read_on(reached.reader, reached.fetched);
+    let reached = window_reaching::reach(window, src, room, 0);
     let answer = reached.answer;
+    let after = reached.window;
     match answer {
         DoneAnswer::Done => MoreGiven {
             answer: MoreAnswer::More(after.current.0 < after.fetched.0),
@@ -81,81 +65,6 @@ pub fn has_more(window: Window, src: &[u8], room: &mut [u32]) -> MoreGiven
             answer: MoreAnswer::Refused(refusal),
             window: after,
         },
-    }
-}
-
-// Tests the window, and fetches up to the token n after the current one.
-fn reach(window: Window, src: &[u8], room: &mut [u32], n: usize) -> Reached
-    ensures { λ r. ⌜ done-reply (reached window r) (now (room .exit)) ≡ reach (now (src .entry)) (suc n) (state window (now (room .entry))) ⌝ }
-{
-    if window.is_sound(src.len(), room.len()) {
-        fetch(window, src, room, n)
-    } else {
-        still(window, DoneAnswer::Refused(Refusal::NotAsOpened))
-    }
-}
-
-// Fetches up to the token n after the current one. Where that one is there, nothing is to be fetched.
-fn fetch(window: Window, src: &[u8], room: &mut [u32], n: usize) -> Reached
-    requires { ⌜ Fit (length (now src)) (length (now room)) window ⌝ }
-    ensures { λ r. ⌜ done-reply (reached window r) (now (room .exit)) ≡ reach (now (src .entry)) (suc n) (state window (now (room .entry))) ⌝ }
-{
-    let ready = (window.fetched.0 - window.current.0) as usize;
-    if n < ready {
-        return still(window, DoneAnswer::Done);
-    }
-    let reader = window.reader;
-    let first = window.fetched;
-    let spare = window.slots - window.kept();
-    gather(src, reader, room, first, needed(n - ready), spare)
-}
-
-// Fetches `need` tokens from the reader on, or all up to the end, unless they are more than `spare`.
-fn gather(
-    src: &[u8],
-    reader: Reader,
-    room: &mut [u32],
-    first: TokenIndex,
-    need: usize,
-    spare: usize,
-) -> Reached
-    ensures { λ r. ⌜ (r, now (room .exit)) ≡ gathered reader first (fetched (now (src .entry)) reader (now (room .entry)) first need spare) ⌝ }
-{
-    match fetching::fetch(src, reader, room, first, need, spare) {
-        Fetched::Upto(behind, next) => Reached {
-            answer: DoneAnswer::Done,
-            reader: behind,
-            fetched: next,
-        },
-        Fetched::Refused(refusal) => Reached {
-            answer: DoneAnswer::Refused(refusal),
-            reader,
-            fetched: first,
-        },
-    }
-}
-
-// Nothing fetched.
-fn still(window: Window, answer: DoneAnswer) -> Reached
-    ensures { λ r. ⌜ r ≡ still window answer ⌝ }
-{
-    let reader = window.reader;
-    let fetched = window.fetched;
-    Reached {
-        answer,
-        reader,
-        fetched,
-    }
-}
-
-// One more than `far`. From the limit of a source on, every number of tokens is all of them.
-fn needed(far: usize) -> usize
-    ensures { λ r. ⌜ r ≡ min (far + 1) source-limit ⌝ }
-{
-    if far < SOURCE_LIMIT {
-        far + 1
-    } else {
-        SOURCE_LIMIT
     }
 }
 

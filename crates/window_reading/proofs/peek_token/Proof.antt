@@ -1,19 +1,16 @@
--- What `reach` gives is what the call goes on from; then `look`.
+-- What reaching gives is what the call goes on from; then `look`.
 -- Assumes nothing.
 use Prim.Native.Nat.{suc}
 use mathlib.Core.Path.{refl, _∙_}
 use borrow.Author.Needs.{needs}
 use Rattle.token_record.specs.Record.{peek-token}
 use Rattle.window.specs.Window.{state}
-use Rattle.window_reading.specs.ReachingLaws.{went-on, refused-there, reached-low, peeked}
+use Rattle.window_reading.specs.ProceedingLaws.{went-on, refused-there, reached-low, peeked}
 use Rattle.window_reading.proofs.peek_token.Statement.{statement}
 use Rattle.window_reading.proofs.peek_token.Tie as tie
 
 reach-requires : tie.Need-reach-requires
 reach-requires c κs = search needs
-
-read-on-requires : tie.Need-read-on-requires
-read-on-requires c κs = search needs
 
 enum-told : tie.Need-enum-told
 enum-told c = search needs
@@ -22,7 +19,7 @@ look-requires : tie.Need-look-requires
 look-requires c κs =
     let a = c .before .before .before .before .before .before .before .before .before .before .args in
     let g = c .before .before .before .before .before .before .reach in
-    reached-low (a .src .now) (state (a .window) (a .room .now)) (suc (a .n)) (g .result) _ _ (c .before .before .before .read-on .ensures) (g .ensures)
+    reached-low (a .src .now) (state (a .window) (a .room .now)) (suc (a .n)) (g .result) _ (g .ensures)
     (c .before .enum-told .given .1)
 
 enum-known-answer : tie.Need-enum-known-answer
@@ -35,8 +32,8 @@ returns : tie.Need-returns
 returns c =
     let a = c .before .before .before .before .before .before .before .before .before .before .before .args in
     let g = c .before .before .before .before .before .before .before .reach in
-    peeked (state (c .before .before .before .before .read-on .result) (g .last .1 .1 .0)) (a .n) _ (c .look .ensures)
-    ∙ went-on (a .src .now) (state (a .window) (a .room .now)) (suc (a .n)) (g .result) _ (g .last .1 .1 .0) (c .before .before .before .before .read-on .ensures) (g .ensures)
+    peeked (state (g .result .window) (g .last .1 .1 .0)) (a .n) _ (c .look .ensures)
+    ∙ went-on (a .src .now) (state (a .window) (a .room .now)) (suc (a .n)) (g .result) (g .last .1 .1 .0) (g .ensures)
     (peek-token (a .n)) (a .n) refl refl (c .before .before .enum-told .given .1)
 
 same-length-2 : tie.Need-same-length-2
@@ -46,7 +43,7 @@ returns-2 : tie.Need-returns-2
 returns-2 c =
     let a = c .before .before .before .before .before .before .before .before .before .before .args in
     let g = c .before .before .before .before .before .before .reach in
-    refused-there (a .src .now) (state (a .window) (a .room .now)) (suc (a .n)) (g .result) _ (g .last .1 .1 .0) (c .before .before .before .read-on .ensures) (g .ensures)
+    refused-there (a .src .now) (state (a .window) (a .room .now)) (suc (a .n)) (g .result) (g .last .1 .1 .0) (g .ensures)
     (peek-token (a .n)) (a .n) refl refl _ (c .before .answer .given .1)
 
 pub peek-token-spec : {M : Type 1} → statement M
@@ -54,7 +51,6 @@ peek-token-spec =
     tie.close
     (tie.spec
     reach-requires
-    read-on-requires
     enum-told
     look-requires
     enum-known-answer

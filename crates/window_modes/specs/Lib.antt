@@ -1,0 +1,2 @@
+-- What a switch comes to, and its law.
+pub mod SwitchLaws

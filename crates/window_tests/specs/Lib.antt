@@ -1,0 +1,2 @@
+-- How many tokens are kept, by the first bookmark; and the laws of the tests.
+pub mod TestLaws
