@@ -7,19 +7,16 @@ use mathlib.Core.List.{List}
 use native.Mathlib.Numerals.{add-one}
 use native.Mathlib.Omega.{arith}
 use native.Mathlib.Decide.{decLt}
-use lib.ListN.{length, getD, drop, List·getD-eq-default}
+use lib.ListN.{length, getD, drop}
 use lib.Seq.{drop-cons}
 use lib.Dec.{eqb}
-use borrow.Author.Tests.{ne-eqb, eqb-true}
+use borrow.Author.Tests.{eqb-true}
 use Rattle.patterns.specs.Utf8.{Class}
 use Rattle.patterns.specs.Pattern.{Pat, nothing, byte, seq, star, plus, nullable, deriv, walk, longest}
 use Rattle.patterns.specs.Bools.{by-test}
 use Rattle.patterns.specs.Walk.{byte-within, ends, Came, start, step, free, swap, span, span-yes, span-no, span-over, span-stops, skip, through}
 
 -- past its end a source reads as 0: any other byte stands within it
-pub outside : (s : List ℕ) (i n : ℕ) → length s ≤ i → 0 < n → eqb (getD s i 0) n ≡ false
-outside s i n h l = ne-eqb (getD s i 0) n (λ e. omega (arith, List·getD-eq-default s 0 h))
-
 pub inside : (s : List ℕ) (i n : ℕ) → eqb (getD s i 0) n ≡ true → 0 < n → i < length s
 inside s i n e l = byte-within s i (λ z. omega (arith, eqb-true (getD s i 0) n e))
 

@@ -1,12 +1,12 @@
 // Numbers: the integers and the floats of normal mode, and the integers of jump mode.
 ghost use mathlib.Core.Path.{_≡_};
-ghost use Prim.Native.Nat.{_+_, _<_};
-ghost use lib.ListN.{getD, drop};
-ghost use lib.Dec.{eqb};
+ghost use Prim.Native.Nat.{_+_};
+ghost use lib.ListN.{drop};
 ghost use Rattle.patterns.specs.Pattern.{walk, longest};
 ghost use Rattle.patterns.specs.Walk.{span};
 ghost use Rattle.tokens.specs.Tokens.{integer, float, jump-integer};
 ghost use Rattle.numbers.specs.Parts.{digit, run, digits, base-at, suffix, fraction, decimal-integer};
+use places::has_byte;
 
 // Where the integer and the float end that start at one place; the place itself where there is none.
 pub struct Ends {
@@ -55,12 +55,12 @@ pub fn jump_integer(src: &[u8], at: usize) -> usize
 fn base_at(src: &[u8], at: usize) -> Base
     ensures { λ r. ⌜ r ≡ base-at (now (src .entry)) at ⌝ }
 {
-    if has(src, at, b'0') {
+    if has_byte(src, at, b'0') {
         let letter = at + 1;
-        if has(src, letter, b'x') {
+        if has_byte(src, letter, b'x') {
             return Base::Hex;
         }
-        if has(src, letter, b'o') {
+        if has_byte(src, letter, b'o') {
             return Base::Octal;
         }
     }
@@ -88,9 +88,9 @@ fn decimal(src: &[u8], at: usize) -> Ends
 fn suffix_end(src: &[u8], at: usize) -> usize
     ensures { λ r. ⌜ r ≡ at + longest suffix (drop at (now (src .entry))) ⌝ }
 {
-    if has(src, at, b'K') || has(src, at, b'M') {
+    if has_byte(src, at, b'K') || has_byte(src, at, b'M') {
         let second = at + 1;
-        if has(src, second, b'B') {
+        if has_byte(src, second, b'B') {
             return second + 1;
         }
     }
@@ -101,7 +101,7 @@ fn suffix_end(src: &[u8], at: usize) -> usize
 fn fraction_end(src: &[u8], at: usize, none: usize) -> usize
     ensures { λ r. ⌜ r ≡ walk fraction (drop at (now (src .entry))) at none ⌝ }
 {
-    if has(src, at, b'.') {
+    if has_byte(src, at, b'.') {
         let first = at + 1;
         let end = run_end(src, first, Base::Decimal, UNDERSCORES);
         if first < end {
@@ -148,12 +148,4 @@ fn is_digit(b: u8, base: Base) -> bool
         Base::Decimal => classes::is_dec(b),
         Base::Hex => classes::is_hex(b),
     }
-}
-
-// Whether the byte `b` stands at `at`. Past the end the source reads as 0.
-fn has(src: &[u8], at: usize, b: u8) -> bool
-    requires { ⌜ 0 < b ⌝ }
-    ensures { λ r. ⌜ r ≡ eqb (getD (now (src .entry)) at 0) b ⌝ }
-{
-    at < src.len() && src[at] == b
 }

@@ -1,17 +1,19 @@
 -- Scanning laws that hold for any text: one byte of a class at a place, read or missed, and a match that has failed.
 -- Each is one turn of `walk`, or none. Assumes nothing.
-use Prim.Native.Nat.{ℕ, _+_, _<_}
+use Prim.Native.Nat.{ℕ, _+_, _≤_, _<_}
 use mathlib.Core.Path.{_≡_, refl, sym, ap, _∙_, fun-ext}
 use mathlib.Core.Bool.{Bool, true, false, cond, _&&_, and-true, or-false}
 use mathlib.Core.List.{List, [], _∷_}
-use lib.ListN.{length, getD, drop}
+use native.Mathlib.Decide.{decLt}
+use native.Mathlib.Omega.{arith}
+use lib.ListN.{length, getD, drop, List·getD-eq-default}
 use lib.Seq.{drop-cons}
 use lib.Dec.{ltb, eqb}
-use borrow.Author.Tests.{ltb-true, lt-ltb}
+use borrow.Author.Tests.{ltb-true, lt-ltb, ne-eqb}
 use Rattle.patterns.specs.Utf8.{Class}
 use Rattle.patterns.specs.Bools.{and-first, and-second}
 use Rattle.patterns.specs.Pattern.{Pat, nothing, byte, seq, star, literal, nullable, follow, if-in, deriv, longest}
-use Rattle.patterns.specs.Walk.{ends, Came, step, halt, prefix}
+use Rattle.patterns.specs.Walk.{ends, Came, step, halt, prefix, prefix-short}
 use Rattle.tokens.specs.Tokens.{one-of}
 
 -- a byte of the class f stands at i
@@ -66,6 +68,20 @@ one-byte y = ap byte (fun-ext (λ x. or-false (eqb x y)))
 pub prefix-byte : (y : ℕ) (s : List ℕ) (i : ℕ) → i < length s → prefix (y ∷ []) (drop i s) ≡ eqb (getD s i 0) y
 unfolding prefix
 prefix-byte y s i h = rw (drop-cons s i 0) (and-true (eqb (getD s i 0) y))
+
+-- r tells whether the byte b stands at i
+pub record Has (s : List ℕ) (i b : ℕ) (r : Bool) : Type 0 where
+  pub told : r ≡ prefix (b ∷ []) (drop i s)
+
+-- past its end a source reads as 0, so any other byte stands where it is read
+pub has-read : {s : List ℕ} {i b : ℕ} {r : Bool} → Has s i b r → 0 < b → eqb (getD s i 0) b ≡ r
+has-read {s} {i} {b} h n = sym (h .told ∙ go (decLt i (length s)))
+  where
+    go : Dec (i < length s) → prefix (b ∷ []) (drop i s) ≡ eqb (getD s i 0) b
+    go (yes l) = prefix-byte b s i l
+    go (no l) =
+        let past : length s ≤ i = omega arith in
+        sym (prefix-short (b ∷ []) 0 s i (omega arith) past) ∙ sym (ne-eqb (getD s i 0) b (λ e. omega (arith, List·getD-eq-default s 0 past)))
 
 -- where the match has failed, any pattern that fails at i may be what is left there
 pub failed : {p : Pat} {s : List ℕ} {at b : ℕ} → b ≡ at + longest p (drop at s) → (q : Pat) (i : ℕ) → nullable q ≡ false

@@ -2,6 +2,7 @@
 ghost use mathlib.Core.Path.{_≡_};
 ghost use lib.ListN.{drop};
 ghost use Rattle.patterns.specs.Walk.{prefix};
+ghost use Rattle.places.specs.Places.{Has};
 ghost use Rattle.places.specs.Signs.{Byte};
 
 // The byte at a place, or 0 past the end.
@@ -12,6 +13,13 @@ pub fn byte_at(src: &[u8], at: usize) -> u8
         return src[at];
     }
     0
+}
+
+// Whether the byte `b` stands at `at`.
+pub fn has_byte(src: &[u8], at: usize, b: u8) -> bool
+    ensures { λ r. ⌜ Has (now (src .entry)) at b r ⌝ }
+{
+    at < src.len() && src[at] == b
 }
 
 // Whether `text` stands at `at`.

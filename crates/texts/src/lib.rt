@@ -1,22 +1,13 @@
 // Strings and regexps: where the one at a place ends.
 ghost use Prim.Native.Nat.{_+_, _<_};
 ghost use mathlib.Core.Path.{_≡_};
-ghost use mathlib.Core.List.{[], _∷_};
 ghost use lib.ListN.{length, getD, drop};
 ghost use Rattle.patterns.specs.Pattern.{longest};
-ghost use Rattle.patterns.specs.Walk.{prefix};
 ghost use Rattle.tokens.specs.Tokens.{letter, string, multi-line-string, regexp};
 ghost use Rattle.places.specs.Places.{stands};
 ghost use Rattle.texts.specs.Items.{items, pair-at};
 ghost use Rattle.texts.specs.Quoted.{plain, quoted};
 ghost use Rattle.texts.specs.Regexps.{modifiers};
-
-// Whether the byte `b` stands at `at`.
-fn has_byte(src: &[u8], at: usize, b: u8) -> bool
-    ensures { λ r. ⌜ r ≡ prefix (b ∷ []) (drop at (now (src .entry))) ⌝ }
-{
-    at < src.len() && src[at] == b
-}
 
 // Whether `b` is an item by itself: no backslash, not the byte that closes the text, and LF only in a text that may have lines.
 fn plain(b: u8, close: u8, lines: bool) -> bool
@@ -114,15 +105,15 @@ fn modifiers(src: &[u8], at: usize) -> usize
 pub fn regexp(src: &[u8], at: usize) -> usize
     ensures { λ r. ⌜ r ≡ at + longest regexp (drop at (now (src .entry))) ⌝ }
 {
-    if !has_byte(src, at, b'/') {
+    if !places::has_byte(src, at, b'/') {
         return at;
     }
     let first = at + 1;
-    if has_byte(src, first, b'*') || has_byte(src, first, b'/') {
+    if places::has_byte(src, first, b'*') || places::has_byte(src, first, b'/') {
         return at;
     }
     let end = items(src, first, b'/', false);
-    if !has_byte(src, end, b'/') {
+    if !places::has_byte(src, end, b'/') {
         return at;
     }
     modifiers(src, end + 1)
