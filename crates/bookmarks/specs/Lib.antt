@@ -1,6 +1,5 @@
--- What the bookmarks are (Bookmarks, HeldLaws); places in the array (Places, PlaceLaws), and the turns of the loops over it.
+-- What the bookmarks are (Bookmarks, HeldLaws); the tests of them, and the turns of the loops over the array.
 pub mod Bookmarks
 pub mod HeldLaws
-pub mod Places
-pub mod PlaceLaws
+pub mod TestLaws
 pub mod Turns

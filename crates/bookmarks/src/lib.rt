@@ -1,10 +1,8 @@
-// The bookmarks: an array of 64 token indexes, of which the first `live` are in use, in order, and the others 0.
-ghost use Prim.Native.Nat.{_-_, _≤_, _<_};
+// The bookmarks: an array of 64 token indexes, of which the first `live` are in use, in order, and the others 0; and the tests of it.
+ghost use Prim.Native.Nat.{_≤_};
 ghost use mathlib.Core.Path.{_≡_};
 ghost use lib.ListN.{take, drop};
-ghost use Rattle.token_record.specs.Record.{member};
-ghost use Rattle.bookmarks.specs.Bookmarks.{in-order, unused, held, low-of, inserted, removed};
-ghost use Rattle.bookmarks.specs.Places.{place-of, find-in, shifted-up, shifted-down};
+ghost use Rattle.bookmarks.specs.Bookmarks.{in-order, unused, held, low-of};
 use tokens::TokenIndex;
 
 // How many bookmarks there can be.
@@ -67,103 +65,4 @@ pub fn low(first: TokenIndex, live: u32, current: TokenIndex) -> TokenIndex
         return current;
     }
     if first.0 < current.0 { first } else { current }
-}
-
-// Whether a bookmark is live.
-pub fn has(bookmarks: Bookmarks, live: u32, mark: TokenIndex) -> bool
-    ensures { λ r. ⌜ r ≡ member mark (take live bookmarks) ⌝ }
-{
-    find(bookmarks, live, mark) < BOOKMARKS
-}
-
-// The bookmarks with one more among the live ones, in order; as they are where all places are in use.
-pub fn insert(bookmarks: Bookmarks, live: u32, mark: TokenIndex) -> Bookmarks
-    ensures { λ r. ⌜ r ≡ inserted live mark bookmarks ⌝ }
-{
-    let n = live as usize;
-    if n < BOOKMARKS {
-        let at = place(bookmarks, n, mark);
-        shift_up(bookmarks, at, n, mark)
-    } else {
-        bookmarks
-    }
-}
-
-// The bookmarks without the first live one that equals `mark`; as they are where there is none.
-pub fn remove(bookmarks: Bookmarks, live: u32, mark: TokenIndex) -> Bookmarks
-    ensures { λ r. ⌜ r ≡ removed live mark bookmarks ⌝ }
-{
-    let at = find(bookmarks, live, mark);
-    if at < BOOKMARKS {
-        shift_down(bookmarks, at)
-    } else {
-        bookmarks
-    }
-}
-
-// The place of the first live bookmark that equals `mark`, or the number of places.
-fn find(bookmarks: Bookmarks, live: u32, mark: TokenIndex) -> usize
-    ensures { λ r. ⌜ r ≡ find-in live mark bookmarks ⌝ }
-{
-    let n = live as usize;
-    let mut i: usize = 0;
-    while i < BOOKMARKS {
-        if n <= i {
-            return BOOKMARKS;
-        }
-        if bookmarks[i].0 == mark.0 {
-            return i;
-        }
-        i += 1;
-    }
-    BOOKMARKS
-}
-
-// The place of the first of n bookmarks that is above `mark`, or n.
-fn place(bookmarks: Bookmarks, n: usize, mark: TokenIndex) -> usize
-    requires { ⌜ n < 64 ⌝ }
-    ensures { λ r. ⌜ r ≡ place-of mark (take n bookmarks) ⌝ }
-{
-    let mut i: usize = 0;
-    while i < n {
-        if mark.0 < bookmarks[i].0 {
-            return i;
-        }
-        i += 1;
-    }
-    i
-}
-
-// The bookmarks with `mark` at a place, and those from there up to n one place on.
-fn shift_up(bookmarks: Bookmarks, at: usize, n: usize, mark: TokenIndex) -> Bookmarks
-    requires { ⌜ (at ≤ n) × (n < 64) ⌝ }
-    ensures { λ r. ⌜ r ≡ shifted-up at n mark bookmarks ⌝ }
-{
-    let mut marks = bookmarks;
-    let mut carry = mark;
-    let mut i = at;
-    while i < n {
-        let next = marks[i];
-        marks[i] = carry;
-        carry = next;
-        i += 1;
-    }
-    marks[n] = carry;
-    marks
-}
-
-// The bookmarks without the one at a place: those behind it move down, and the last place is 0.
-fn shift_down(bookmarks: Bookmarks, at: usize) -> Bookmarks
-    requires { ⌜ at < 64 ⌝ }
-    ensures { λ r. ⌜ r ≡ shifted-down at bookmarks ⌝ }
-{
-    let mut marks = bookmarks;
-    let mut i = at;
-    while i < BOOKMARKS - 1 {
-        let next = marks[i + 1];
-        marks[i] = next;
-        i += 1;
-    }
-    marks[BOOKMARKS - 1] = TokenIndex(0);
-    marks
 }

@@ -29,7 +29,7 @@ fn placed(w: Window, place: u32) -> Window {
     forged
 }
 
-// The record with another number in a field, by the line's first letter.
+// The record with another number in a field, by the line's first letter; as it is where none has that letter.
 fn counted(w: Window, letter: u8, n: u32) -> Window {
     let index = TokenIndex(n);
     let mut forged = w;
@@ -38,12 +38,13 @@ fn counted(w: Window, letter: u8, n: u32) -> Window {
         b'C' => forged.current = index,
         b'L' => forged.live = n,
         b'B' => forged.bytes = n,
-        _ => forged.slots = n as usize,
+        b'W' => forged.slots = n as usize,
+        _ => {}
     }
     forged
 }
 
-// The record with a field set, by the line's first letter.
+// The record with a field set, by the line's first letter; as it is where none has that letter.
 pub(crate) fn set(w: Window, asked: Asked) -> Window {
     let n = lines::narrow(asked.first);
     let letter = asked.letter;

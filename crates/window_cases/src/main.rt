@@ -9,13 +9,15 @@
 ghost use Prim.Native.Nat.{_≤_};
 ghost use lib.ListN.{length};
 
-mod bench;
 mod calls;
 mod forge;
+mod lent;
 mod same;
 mod say;
 
+use lent::Lent;
 use libc::STDIN_FILENO;
+use window::Window;
 
 // Room for 20,000 bytes of cases, and the bytes that no line has.
 fn bytes() -> [u8; 85541] {
@@ -28,17 +30,33 @@ fn bytes() -> [u8; 85541] {
     all
 }
 
-// Runs each line of the cases, which are the first n bytes of the text.
+// A window with no source and no room.
+fn unopened() -> Window {
+    let given = Window::open(b"", &[]);
+    given.window
+}
+
+// Runs each line of the cases, which are the first n bytes of the text. At first there is no source and no room.
 fn run(text: &[u8], n: usize, room: &mut [u32])
     requires { ⌜ n ≤ length (now text) ⌝ }
 {
-    let mut on = bench::new();
+    let mut window = unopened();
+    let mut lent = Lent {
+        from: 0,
+        to: 0,
+        numbers: 0,
+    };
     let mut at = 0;
     while at < n {
         let end = lines::line_end(text, at);
-        on = bench::step(on, &text[at..end], end, text, room);
+        let next = end + 1;
+        let line = &text[at..end];
+        say::text(line);
+        let asked = lines::ask(line);
+        lent = lent::after(lent, asked, at, end, room);
+        window = calls::after(window, asked, lent, text, room);
         say::text(b"\n");
-        at = end + 1;
+        at = next;
     }
 }
 

@@ -18,7 +18,7 @@ fn number(m: Mode) -> u32 {
 fn readers(a: Reader, b: Reader) -> bool {
     let first = a.mode;
     let second = b.mode;
-    a.place.0 == b.place.0 && number(first) == number(second)
+    (a.place.0 == b.place.0) & (number(first) == number(second))
 }
 
 // Whether all places for bookmarks are.
@@ -35,20 +35,23 @@ fn places(a: [TokenIndex; 64], b: [TokenIndex; 64]) -> bool {
 
 // Whether the numbers of two windows are.
 fn counts(a: Window, b: Window) -> bool {
-    a.live == b.live
-        && a.bytes == b.bytes
-        && a.slots == b.slots
-        && a.fetched.0 == b.fetched.0
-        && a.current.0 == b.current.0
+    (a.live == b.live)
+        & (a.bytes == b.bytes)
+        & (a.slots == b.slots)
+        & (a.fetched.0 == b.fetched.0)
+        & (a.current.0 == b.current.0)
+}
+
+// Whether two windows are.
+fn windows(a: Window, b: Window) -> bool {
+    let marks = a.bookmarks;
+    let others = b.bookmarks;
+    counts(a, b) & readers(a.reader, b.reader) & places(marks, others)
 }
 
 // Says where the window that a call gave back is the one handed in, and hands it on.
 pub(crate) fn remark(before: Window, after: Window) -> Window {
-    let reader = before.reader;
-    let reader_after = after.reader;
-    let marks = before.bookmarks;
-    let marks_after = after.bookmarks;
-    if counts(before, after) && readers(reader, reader_after) && places(marks, marks_after) {
+    if windows(before, after) {
         say::text(b", same window");
     }
     after

@@ -3,8 +3,10 @@ use libc::STDOUT_FILENO;
 use refusals::Refusal;
 use scanner::Reader;
 use tokens::Mode;
-use tokens::Token;
+use tokens::TokenIndex;
+use window::TokenAnswer;
 use window::Window;
+use window_asking::Told;
 
 // Bytes as they are.
 pub(crate) fn text(bytes: &[u8]) {
@@ -12,7 +14,7 @@ pub(crate) fn text(bytes: &[u8]) {
 }
 
 // A number in decimal.
-pub(crate) fn number(n: usize) {
+fn number(n: usize) {
     io::print_decimal(STDOUT_FILENO, n as u64);
 }
 
@@ -28,11 +30,11 @@ fn named_u32(name: &[u8], n: u32) {
 }
 
 // A truth by its name.
-pub(crate) fn truth(b: bool) {
-    if b {
-        text(b"true");
-    } else {
+fn truth(n: u32) {
+    if n == 0 {
         text(b"false");
+    } else {
+        text(b"true");
     }
 }
 
@@ -42,10 +44,32 @@ pub(crate) fn refusal(r: Refusal) {
 }
 
 // A token as document 01 writes it.
-pub(crate) fn token(t: Token) {
-    number(t.kind as usize);
-    named_u32(b" ", t.start.0);
-    named_u32(b"..", t.end.0);
+fn token(kind: u32, start: u32, end: u32) {
+    number(kind as usize);
+    named_u32(b" ", start);
+    named_u32(b"..", end);
+}
+
+// What peek answers.
+pub(crate) fn token_answer(answer: TokenAnswer) {
+    match answer {
+        TokenAnswer::Token(t) => token(t.kind, t.start.0, t.end.0),
+        TokenAnswer::None => text(b"none"),
+        TokenAnswer::Refused(r) => refusal(r),
+    }
+}
+
+// What a call by numbers answers.
+pub(crate) fn told(answer: Told) {
+    let tag = answer.tag;
+    match tag {
+        0 => text(b"none"),
+        1 => token(answer.first, answer.second, answer.third),
+        2 => truth(answer.first),
+        3 => number(answer.first as usize),
+        4 => text(b"done"),
+        _ => named_u32(b"refused ", answer.first),
+    }
 }
 
 // A mode by its name.
@@ -65,9 +89,7 @@ fn position(reader: Reader) {
 }
 
 // The first bookmarks, so many of them as are live.
-fn bookmarks(w: Window) {
-    let marks = w.bookmarks;
-    let live = w.live as usize;
+fn bookmarks(marks: [TokenIndex; 64], live: usize) {
     let mut i: usize = 0;
     while i < 64 {
         if live <= i {
@@ -84,10 +106,10 @@ fn window(w: Window) {
     named(b", W ", w.slots);
     named_u32(b", fetched ", w.fetched.0);
     named_u32(b", current ", w.current.0);
-    let reader = w.reader;
-    position(reader);
+    position(w.reader);
     named_u32(b", live ", w.live);
-    bookmarks(w);
+    let marks = w.bookmarks;
+    bookmarks(marks, w.live as usize);
 }
 
 // The numbers of a room, on a line.

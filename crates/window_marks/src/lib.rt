@@ -29,7 +29,7 @@ pub fn bookmark(window: Window, src: &[u8], room: &[u32]) -> IndexGiven
     }
     let current = window.current;
     let marks = window.bookmarks;
-    let marked = bookmarks::insert(marks, window.live, current);
+    let marked = bookmark_inserting::insert(marks, window.live, current);
     let mut after = window;
     after.bookmarks = marked;
     after.live = window.live + 1;
@@ -50,7 +50,7 @@ pub fn restore_bookmark(window: Window, src: &[u8], room: &[u32], mark: TokenInd
         };
     }
     let among = window.bookmarks;
-    if !bookmarks::has(among, window.live, mark) {
+    if !bookmark_removing::has(among, window.live, mark) {
         return DoneGiven {
             answer: DoneAnswer::Refused(Refusal::NotLive),
             window,
@@ -75,13 +75,13 @@ pub fn remove_bookmark(window: Window, src: &[u8], room: &[u32], mark: TokenInde
         };
     }
     let marks = window.bookmarks;
-    if !bookmarks::has(marks, window.live, mark) {
+    if !bookmark_removing::has(marks, window.live, mark) {
         return DoneGiven {
             answer: DoneAnswer::Refused(Refusal::NotLive),
             window,
         };
     }
-    let left = bookmarks::remove(marks, window.live, mark);
+    let left = bookmark_removing::remove(marks, window.live, mark);
     let mut after = window;
     after.bookmarks = left;
     after.live = window.live - 1;

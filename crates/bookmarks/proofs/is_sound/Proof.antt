@@ -2,7 +2,7 @@
 -- Assumes nothing.
 use mathlib.Core.Path.{sym, _∙_}
 use borrow.Author.Needs.{needs}
-use Rattle.bookmarks.specs.PlaceLaws.{held-many, held-tests}
+use Rattle.bookmarks.specs.TestLaws.{held-many, held-tests}
 use Rattle.bookmarks.proofs.is_sound.Statement.{statement}
 use Rattle.bookmarks.proofs.is_sound.Tie as tie
 

@@ -3,7 +3,7 @@
 use mathlib.Core.Path.{sym}
 use native.Mathlib.Omega.{arith}
 use borrow.Author.Tests.{lt-ltb, le-ltb}
-use Rattle.bookmarks.specs.PlaceLaws.{low-none, low-first}
+use Rattle.bookmarks.specs.TestLaws.{low-none, low-first}
 use Rattle.bookmarks.proofs.low.Statement.{statement}
 use Rattle.bookmarks.proofs.low.Tie as tie
 

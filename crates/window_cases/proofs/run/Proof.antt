@@ -11,18 +11,17 @@ use Rattle.window_cases.proofs.run.Statement.{statement}
 use Rattle.window_cases.proofs.run.Tie as tie
 
 abbrev Inv-loop : tie.InvT-loop
-Inv-loop text n room₀ on₀ at₀ _ room on at = length room ≡ length room₀
+Inv-loop text n room₀ window₀ lent₀ at₀ _ room window lent at = length room ≡ length room₀
 
 abbrev μ-loop : tie.MeasureT-loop
-μ-loop text n room₀ on₀ at₀ _ room on at = n - at
+μ-loop text n room₀ window₀ lent₀ at₀ _ room window lent at = n - at
 
 -- a line that starts within the text ends within it
-end-within : (c : tie.After-line-end Inv-loop μ-loop)
-    → c .line-end .result ≤ length (c .before .before .before .before .before .before .args .text .now)
+end-within : (c : tie.After-line-end Inv-loop μ-loop) → c .line-end .result ≤ length (c .before .before .before .before .before .before .args .text .now)
 end-within c = next-within _ _ lf (c .line-end .ensures) (omega arith)
 
-new-requires : tie.Need-new-requires Inv-loop μ-loop
-new-requires c κs = search needs
+unopened-requires : tie.Need-unopened-requires Inv-loop μ-loop
+unopened-requires c κs = search needs
 
 loop-holds : tie.Need-loop-holds Inv-loop μ-loop
 loop-holds c = search needs
@@ -30,26 +29,35 @@ loop-holds c = search needs
 line-end-requires : tie.Need-line-end-requires Inv-loop μ-loop
 line-end-requires c κs = search needs
 
-sub-step : tie.Need-sub-step Inv-loop μ-loop
-sub-step c = search needs
+add-next : tie.Need-add-next Inv-loop μ-loop
+add-next c = omega (arith, end-within c)
 
-part-step-start : tie.Need-part-step-start Inv-loop μ-loop
-part-step-start c = search needs
+sub-line : tie.Need-sub-line Inv-loop μ-loop
+sub-line c = search needs
 
-part-step-end : tie.Need-part-step-end Inv-loop μ-loop
-part-step-end c = omega (arith, end-within c)
+part-line-start : tie.Need-part-line-start Inv-loop μ-loop
+part-line-start c = search needs
 
-step-requires : tie.Need-step-requires Inv-loop μ-loop
-step-requires c κs = search needs
-
-slice-aggregate-text : tie.Need-slice-aggregate-text Inv-loop μ-loop
-slice-aggregate-text c = search needs
+part-line-end : tie.Need-part-line-end Inv-loop μ-loop
+part-line-end c = omega (arith, end-within c)
 
 text-requires : tie.Need-text-requires Inv-loop μ-loop
 text-requires c κs = search needs
 
-add-at : tie.Need-add-at Inv-loop μ-loop
-add-at c = omega (arith, end-within (c .before .before .before .before .before .before .before))
+ask-requires : tie.Need-ask-requires Inv-loop μ-loop
+ask-requires c κs = search needs
+
+after-requires : tie.Need-after-requires Inv-loop μ-loop
+after-requires c κs = search needs
+
+after-requires-2 : tie.Need-after-requires-2 Inv-loop μ-loop
+after-requires-2 c κs = search needs
+
+slice-aggregate-text : tie.Need-slice-aggregate-text Inv-loop μ-loop
+slice-aggregate-text c = search needs
+
+text-requires-2 : tie.Need-text-requires-2 Inv-loop μ-loop
+text-requires-2 c κs = search needs
 
 loop-less : tie.Need-loop-less Inv-loop μ-loop
 loop-less c = search needs
@@ -69,16 +77,19 @@ run-spec =
     (tie.spec
     Inv-loop
     μ-loop
-    new-requires
+    unopened-requires
     loop-holds
     line-end-requires
-    sub-step
-    part-step-start
-    part-step-end
-    step-requires
-    slice-aggregate-text
+    add-next
+    sub-line
+    part-line-start
+    part-line-end
     text-requires
-    add-at
+    ask-requires
+    after-requires
+    after-requires-2
+    slice-aggregate-text
+    text-requires-2
     loop-less
     loop-again
     same-length

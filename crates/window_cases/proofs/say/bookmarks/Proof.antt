@@ -6,13 +6,10 @@ use Rattle.window_cases.proofs.say.bookmarks.Statement.{statement}
 use Rattle.window_cases.proofs.say.bookmarks.Tie as tie
 
 abbrev Inv-loop : tie.InvT-loop
-Inv-loop marks live i₀ _ i = Unit {0}
+Inv-loop live marks i₀ _ i = Unit {0}
 
 abbrev μ-loop : tie.MeasureT-loop
-μ-loop marks live i₀ _ i = 64 - i
-
-cast-live : tie.Need-cast-live Inv-loop μ-loop
-cast-live c = search needs
+μ-loop live marks i₀ _ i = 64 - i
 
 loop-holds : tie.Need-loop-holds Inv-loop μ-loop
 loop-holds c = search needs
@@ -50,7 +47,6 @@ bookmarks-spec =
     (tie.spec
     Inv-loop
     μ-loop
-    cast-live
     loop-holds
     returns
     slice-aggregate-named-u32

@@ -1,11 +1,11 @@
--- `bookmarks::insert` meets its contract: the shift at the place of `mark` puts it behind those that are no greater.
+-- `bookmark_inserting::insert` meets its contract: the shift at the place of `mark` puts it behind those that are no greater.
 -- Assumes nothing.
 use Prim.Native.Nat.{_≤_}
 use mathlib.Core.Path.{_∙_}
 use borrow.Author.Needs.{needs}
-use Rattle.bookmarks.specs.PlaceLaws.{place-le, shifted-inserted, none-inserted}
-use Rattle.bookmarks.proofs.insert.Statement.{statement}
-use Rattle.bookmarks.proofs.insert.Tie as tie
+use Rattle.bookmark_inserting.specs.PlaceLaws.{place-le, shifted-inserted, none-inserted}
+use Rattle.bookmark_inserting.proofs.insert.Statement.{statement}
+use Rattle.bookmark_inserting.proofs.insert.Tie as tie
 
 place-requires : tie.Need-place-requires
 place-requires c κs = search needs

@@ -1,15 +1,15 @@
--- `bookmarks::shift_down` meets its contract. The loop's invariant: the array as it is now without the one at place i is the array as it
+-- `bookmark_removing::shift_down` meets its contract. The loop's invariant: the array as it is now without the one at place i is the array as it
 -- was without the one at `at`. Assumes nothing.
 use Prim.Native.Nat.{_+_, _-_, _<_}
 use mathlib.Core.Path.{_≡_, refl, _∙_}
 use native.Mathlib.Omega.{arith}
 use borrow.Author.Needs.{needs}
 use lib.ListN.{length, getD, length-set}
 use Rattle.bookmarks.specs.Bookmarks.{unused-place}
-use Rattle.bookmarks.specs.Places.{shifted-down}
-use Rattle.bookmarks.specs.Turns.{down-turn, down-end}
-use Rattle.bookmarks.proofs.shift_down.Statement.{statement}
-use Rattle.bookmarks.proofs.shift_down.Tie as tie
+use Rattle.bookmark_removing.specs.Places.{shifted-down}
+use Rattle.bookmark_removing.specs.Turns.{down-turn, down-end}
+use Rattle.bookmark_removing.proofs.shift_down.Statement.{statement}
+use Rattle.bookmark_removing.proofs.shift_down.Tie as tie
 
 abbrev Inv-loop : tie.InvT-loop
 Inv-loop at marks₀ i₀ marks i = (i < 64) × (length marks ≡ 64) × (shifted-down i marks ≡ shifted-down at marks₀)

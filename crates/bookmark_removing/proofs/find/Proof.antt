@@ -1,4 +1,4 @@
--- `bookmarks::find` meets its contract. The loop's invariant: the place in the rest, behind those passed, is the place in the whole.
+-- `bookmark_removing::find` meets its contract. The loop's invariant: the place in the rest, behind those passed, is the place in the whole.
 -- Assumes nothing.
 use Prim.Native.Nat.{_+_, _-_, _≤_}
 use mathlib.Core.Path.{_≡_, sym, _∙_}
@@ -6,10 +6,10 @@ use native.Mathlib.Nat.{sub-zero, zero-add}
 use native.Mathlib.Omega.{arith}
 use borrow.Author.Needs.{needs}
 use lib.ListN.{length, drop}
-use Rattle.bookmarks.specs.Places.{find-in}
-use Rattle.bookmarks.specs.Turns.{find-turn, find-here, find-passed, find-end}
-use Rattle.bookmarks.proofs.find.Statement.{statement}
-use Rattle.bookmarks.proofs.find.Tie as tie
+use Rattle.bookmark_removing.specs.Places.{find-in}
+use Rattle.bookmark_removing.specs.Turns.{find-turn, find-here, find-passed, find-end}
+use Rattle.bookmark_removing.proofs.find.Statement.{statement}
+use Rattle.bookmark_removing.proofs.find.Tie as tie
 
 abbrev Inv-loop : tie.InvT-loop
 Inv-loop live mark bookmarks n i₀ i =

@@ -1,10 +1,10 @@
--- `bookmarks::remove` meets its contract: at the place found the shift takes the bookmark out, and none is live where no place is found.
+-- `bookmark_removing::remove` meets its contract: at the place found the shift takes the bookmark out, and none is live where no place is found.
 -- Assumes nothing.
 use mathlib.Core.Path.{_∙_}
 use borrow.Author.Needs.{needs}
-use Rattle.bookmarks.specs.PlaceLaws.{shifted-removed, none-removed}
-use Rattle.bookmarks.proofs.remove.Statement.{statement}
-use Rattle.bookmarks.proofs.remove.Tie as tie
+use Rattle.bookmark_removing.specs.PlaceLaws.{shifted-removed, none-removed}
+use Rattle.bookmark_removing.proofs.remove.Statement.{statement}
+use Rattle.bookmark_removing.proofs.remove.Tie as tie
 
 find-requires : tie.Need-find-requires
 find-requires c κs = search needs

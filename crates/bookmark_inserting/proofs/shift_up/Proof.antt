@@ -1,14 +1,14 @@
--- `bookmarks::shift_up` meets its contract. The loop's invariant: to put the carried one at place i of the array as it is now is to put
+-- `bookmark_inserting::shift_up` meets its contract. The loop's invariant: to put the carried one at place i of the array as it is now is to put
 -- `mark` at its place in the array as it was. Assumes nothing.
 use Prim.Native.Nat.{_-_, _≤_, _<_}
 use mathlib.Core.Path.{_≡_, refl, _∙_}
 use native.Mathlib.Omega.{arith}
 use borrow.Author.Needs.{needs}
 use lib.ListN.{length, length-set}
-use Rattle.bookmarks.specs.Places.{shifted-up}
-use Rattle.bookmarks.specs.Turns.{up-turn, up-end}
-use Rattle.bookmarks.proofs.shift_up.Statement.{statement}
-use Rattle.bookmarks.proofs.shift_up.Tie as tie
+use Rattle.bookmark_inserting.specs.Places.{shifted-up}
+use Rattle.bookmark_inserting.specs.Turns.{up-turn, up-end}
+use Rattle.bookmark_inserting.proofs.shift_up.Statement.{statement}
+use Rattle.bookmark_inserting.proofs.shift_up.Tie as tie
 
 abbrev Inv-loop : tie.InvT-loop
 Inv-loop at n marks₀ carry₀ i₀ marks carry i =

@@ -1,17 +1,17 @@
--- `bench::with_room` is safe and ends: it writes at places of the room alone.
+-- `lent::fill` is safe and ends: it writes at places of the room alone.
 -- The measure is how many places are left. Assumes nothing.
 use Prim.Native.Nat.{_-_}
 use borrow.Author.Needs.{needs}
 use lib.ListN.{length}
 use mathlib.Core.Path.{_≡_}
-use Rattle.window_cases.proofs.bench.with_room.Statement.{statement}
-use Rattle.window_cases.proofs.bench.with_room.Tie as tie
+use Rattle.window_cases.proofs.lent.fill.Statement.{statement}
+use Rattle.window_cases.proofs.lent.fill.Tie as tie
 
 abbrev Inv-loop : tie.InvT-loop
-Inv-loop b numbers room₀ i₀ room i = length room ≡ length room₀
+Inv-loop room₀ i₀ room i = length room ≡ length room₀
 
 abbrev μ-loop : tie.MeasureT-loop
-μ-loop b numbers room₀ i₀ room i = length room₀ - i
+μ-loop room₀ i₀ room i = length room₀ - i
 
 loop-holds : tie.Need-loop-holds Inv-loop μ-loop
 loop-holds c = search needs
@@ -37,8 +37,8 @@ same-length c = search needs
 returns : tie.Need-returns Inv-loop μ-loop
 returns c = search needs
 
-pub with-room-spec : {M : Type 1} → statement M
-with-room-spec =
+pub fill-spec : {M : Type 1} → statement M
+fill-spec =
     tie.close
     (tie.spec
     Inv-loop

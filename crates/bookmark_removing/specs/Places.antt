@@ -1,28 +1,19 @@
--- Places in the array of bookmarks, and what moves when one comes or goes.
+-- The place of a live bookmark in the array, and what moves when it goes.
 -- Assumes nothing.
-use Prim.Native.Nat.{ℕ, zero, suc, _-_}
+use Prim.Native.Nat.{ℕ, zero, suc}
 use mathlib.Core.Path.{_≡_, refl, ap}
 use mathlib.Core.Bool.{cond}
 use mathlib.Core.List.{List, [], _∷_, _++_}
 use lib.ListN.{length, take, drop}
-use lib.Dec.{eqb, ltb}
+use lib.Dec.{eqb}
 use Rattle.tokens.specs.declared.TokenIndex.{TokenIndex}
 use Rattle.bookmarks.specs.Bookmarks.{unused-place}
 
 -- the place of the first among the first `live` that equals i, or the number of places
 unfoldable pub find-in : ℕ → TokenIndex → List TokenIndex → ℕ
 find-in live i [] = 0
 find-in zero i (m ∷ ms) = suc (find-in zero i ms)
 find-in (suc live) i (m ∷ ms) = cond (eqb (m .0) (i .0)) 0 (suc (find-in live i ms))
-
--- the place of the first that is above i, or their number
-unfoldable pub place-of : TokenIndex → List TokenIndex → ℕ
-place-of i [] = 0
-place-of i (m ∷ ms) = cond (ltb (i .0) (m .0)) 0 (suc (place-of i ms))
-
--- i at a place, and those from there up to n one place on
-unfoldable pub shifted-up : ℕ → ℕ → TokenIndex → List TokenIndex → List TokenIndex
-shifted-up at n i a = take at a ++ i ∷ take (n - at) (drop at a) ++ drop (suc n) a
 
 -- without the one at a place
 unfoldable pub shifted-down : ℕ → List TokenIndex → List TokenIndex

@@ -1,9 +1,9 @@
--- `bookmarks::has` meets its contract: one is live where its place is one of the places.
+-- `bookmark_removing::has` meets its contract: one is live where its place is one of the places.
 -- Assumes nothing.
 use borrow.Author.Needs.{needs}
-use Rattle.bookmarks.specs.PlaceLaws.{found-member}
-use Rattle.bookmarks.proofs.has.Statement.{statement}
-use Rattle.bookmarks.proofs.has.Tie as tie
+use Rattle.bookmark_removing.specs.PlaceLaws.{found-member}
+use Rattle.bookmark_removing.proofs.has.Statement.{statement}
+use Rattle.bookmark_removing.proofs.has.Tie as tie
 
 find-requires : tie.Need-find-requires
 find-requires c κs = search needs

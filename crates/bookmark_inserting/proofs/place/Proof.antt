@@ -1,4 +1,4 @@
--- `bookmarks::place` meets its contract. The loop's invariant: the place in the rest, behind those passed, is the place in the whole.
+-- `bookmark_inserting::place` meets its contract. The loop's invariant: the place in the rest, behind those passed, is the place in the whole.
 -- Assumes nothing.
 use Prim.Native.Nat.{_+_, _-_, _≤_, _<_}
 use mathlib.Core.Path.{_≡_, _∙_}
@@ -6,10 +6,10 @@ use native.Mathlib.Nat.{sub-zero, zero-add}
 use native.Mathlib.Omega.{arith}
 use borrow.Author.Needs.{needs}
 use lib.ListN.{length, take, drop}
-use Rattle.bookmarks.specs.Places.{place-of}
-use Rattle.bookmarks.specs.Turns.{place-turn, place-here, place-end}
-use Rattle.bookmarks.proofs.place.Statement.{statement}
-use Rattle.bookmarks.proofs.place.Tie as tie
+use Rattle.bookmark_inserting.specs.Places.{place-of}
+use Rattle.bookmark_inserting.specs.Turns.{place-turn, place-here, place-end}
+use Rattle.bookmark_inserting.proofs.place.Statement.{statement}
+use Rattle.bookmark_inserting.proofs.place.Tie as tie
 
 abbrev Inv-loop : tie.InvT-loop
 Inv-loop n mark bookmarks i₀ i =
