@@ -25,7 +25,7 @@ pub fn taken(mode: Mode, src: &[u8], at: usize) -> Choice
 fn jump(src: &[u8], at: usize) -> Choice
     ensures { λ r. ⌜ r ≡ choose tables-1 (tried HexJump) (drop at (now (src .entry))) ⌝ }
 {
-    let hit = hits::jump(src, at);
+    let hit = hex_hits::jump(src, at);
     if hit.len == 0 {
         return pattern(src, at);
     }
@@ -40,7 +40,7 @@ fn jump(src: &[u8], at: usize) -> Choice
 fn pattern(src: &[u8], at: usize) -> Choice
     ensures { λ r. ⌜ r ≡ choose tables-1 (tried HexPattern) (drop at (now (src .entry))) ⌝ }
 {
-    let hit = hits::pattern(src, at);
+    let hit = hex_hits::pattern(src, at);
     if hit.len == 0 {
         return normal(src, at);
     }
@@ -55,7 +55,7 @@ fn pattern(src: &[u8], at: usize) -> Choice
 fn normal(src: &[u8], at: usize) -> Choice
     ensures { λ r. ⌜ r ≡ choose tables-1 (tried Normal) (drop at (now (src .entry))) ⌝ }
 {
-    let hit = hits::normal(src, at);
+    let hit = normal_hits::normal(src, at);
     if hit.len == 0 {
         return unmatched(src, at);
     }

@@ -1,6 +1,2 @@
--- How a first byte and the leaves' answers give the longest match of a mode.
+-- How hits put together give the longest match of lists of rules.
 pub mod Better
-pub mod First
-pub mod Families
-pub mod Words
-pub mod Marks
