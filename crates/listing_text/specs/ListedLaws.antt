@@ -1,7 +1,7 @@
--- The cases of what `list` answers, from what opening says and whether the text fits; how much room is always enough; and that the contract
+-- The cases of what `list` answers, from what opening for a listing says; how much room is always enough; and that the contract
 -- leaves no choice. Each is one look at the definition's tests. Assumes nothing.
 use Prim.Native.Nat.{ℕ, _+_, _≤_, zero-le}
-use mathlib.Core.Path.{_≡_, refl, ap}
+use mathlib.Core.Path.{_≡_, refl, ap, _∙_}
 use mathlib.Core.Bool.{Bool, true, false, cond}
 use mathlib.Core.List.{List, _++_}
 use native.Mathlib.Omega.{arith}
@@ -18,22 +18,23 @@ use Rattle.tokens.specs.Scan.{tokens}
 use Rattle.scanner.specs.declared.Reader.{Reader}
 use Rattle.scanner.specs.declared.Opened.{Opened}
 use Rattle.scanner.specs.declared.Opened.the-variants as opened
-use Rattle.scanner.specs.Reading.{source-limit, open-of}
+use Rattle.scanner.specs.Reading.{source-limit}
 use Rattle.scanner.specs.Following.{Sound, rest}
 use Rattle.listing_text.specs.declared.Listed.{Listed}
 use Rattle.listing_text.specs.declared.Listed.the-variants.{Written, Refused}
-use Rattle.listing_text.specs.Listing.{text}
+use Rattle.listing_form.specs.Listing.{text}
 use Rattle.listing_text.specs.Listed.{Outcome, outcome, written, listed}
-use Rattle.listing_text.specs.Put.{put, Wrote}
-use Rattle.listing_text.specs.Sizes.{text-fits}
+use Rattle.listing_form.specs.Put.{put, Wrote}
+use Rattle.listing_size.specs.Sizes.{text-fits}
+use Rattle.listing_size.specs.Fitting.{with-room, fitting}
 
 -- A text that fits and was put, and one that does not fit.
 module _ (t out : List ℕ) where
-  pub written-put : leb (length t) (length out) ≡ true → {after : List ℕ} {n : ℕ} → Wrote 0 t out after n → outcome (Written n) after ≡ written t out
+  written-put : leb (length t) (length out) ≡ true → {after : List ℕ} {n : ℕ} → Wrote 0 t out after n → outcome (Written n) after ≡ written t out
   unfolding written
   written-put h {after} {n} w = let e : n ≡ length t = omega (arith, w .behind) in rw (h, w .bytes, e)
 
-  pub written-none : leb (length t) (length out) ≡ false → outcome (Refused NoRoom) out ≡ written t out
+  written-none : leb (length t) (length out) ≡ false → outcome (Refused NoRoom) out ≡ written t out
   unfolding written
   written-none h = rw h
 
@@ -59,17 +60,27 @@ abbrev start : Reader
 start = record { place = record { 0 = 0 }; mode = Normal }
 
 module _ (src out : List ℕ) where
-  -- What opening says: a reader from which all tokens are left, or the refusal.
-  abbrev pub Opens : Opened → Type 0
-  Opens (opened.Ready r) = Sound src r × (written (text (rest src r)) out ≡ listed src out)
-  Opens (opened.Refused n) = outcome (Refused n) out ≡ listed src out
+  -- What opening for a listing says: a reader from which all tokens are left, and whose text has room; or the refusal.
+  abbrev pub Fits : Opened → Type 0
+  Fits (opened.Ready r) =
+      Sound src r × (length (text (rest src r)) ≤ length out) × ((after : List ℕ) (n : ℕ) → Wrote 0 (text (rest src r)) out after n → outcome (Written n) after ≡ listed src out)
+  Fits (opened.Refused n) = outcome (Refused n) out ≡ listed src out
 
-  pub opens : (y : Opened) → y ≡ open-of src → Opens y
+  pub fits : (y : Opened) → y ≡ fitting src (length out) → Fits y
   unfolding listed
-  opens y e = rw e (go (leb (length src) source-limit) refl)
+  fits y e = rw e (go (leb (length src) source-limit) refl)
     where
-      go : (t : Bool) → leb (length src) source-limit ≡ t → Opens (cond t (opened.Ready start) (opened.Refused SourceTooLong))
-      go true q = (record { limit = leb-true (length src) source-limit q; inside = zero-le }, rw q)
+      within : leb (length src) source-limit ≡ true → (t : Bool) → leb (length (text (rest src start))) (length out) ≡ t → Fits (cond t (opened.Ready start) (opened.Refused NoRoom))
+      within q true h =
+          let w : written (text (rest src start)) out ≡ listed src out = rw q in (
+            record { limit = leb-true (length src) source-limit q; inside = zero-le },
+            leb-true (length (text (rest src start))) (length out) h,
+            λ after n f. written-put (text (rest src start)) out h f ∙ w,
+          )
+      within q false h = let w : written (text (rest src start)) out ≡ listed src out = rw q in written-none (text (rest src start)) out h ∙ w
+
+      go : (t : Bool) → leb (length src) source-limit ≡ t → Fits (with-room src (length out) (cond t (opened.Ready start) (opened.Refused SourceTooLong)))
+      go true q = within q (leb (length (text (rest src start))) (length out)) refl
       go false q = rw q
 
   -- 983,038 bytes are room for every listing

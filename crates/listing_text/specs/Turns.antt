@@ -1,4 +1,4 @@
--- What holds at each turn of the two loops over some tokens, in rest form: what is done, with what is left, is the whole.
+-- What holds at each turn of the loop that writes the lines of some tokens, in rest form: what is done, with what is left, is the whole.
 -- Each turn moves one token from what is left to what is done. Assumes nothing.
 use Prim.Native.Nat.{ℕ, _+_, _≤_}
 use mathlib.Core.Path.{_≡_, refl, sym, ap, _∙_}
@@ -7,16 +7,11 @@ use native.Mathlib.Nat.{add-zero}
 use native.Mathlib.Omega.{arith}
 use lib.ListN.{length}
 use Rattle.tokens.specs.declared.Token.{Token}
-use Rattle.listing_text.specs.Listing.{line, lines, head, text}
-use Rattle.listing_text.specs.Put.{Wrote, put-nil, wrote-both}
-use Rattle.listing_text.specs.Numbers.{length-lines, length-text}
+use Rattle.listing_form.specs.Listing.{line, lines}
+use Rattle.listing_form.specs.Put.{Wrote, put-nil, wrote-both}
+use Rattle.listing_form.specs.Numbers.{length-left}
 
--- Measuring: the tokens so far and the bytes of their lines, where those in `left` are left.
-pub record Measured (xs : List Token) (count bytes : ℕ) (left : List Token) : Type 0 where
-  pub counted : count + length left ≡ length xs
-  pub sized : bytes + length (lines left) ≡ length (lines xs)
-
--- Writing: the tokens so far; and to write the lines that are left from here on is to write all of them from the start.
+-- the tokens so far; and to write the lines that are left from here on is to write all of them from the start.
 pub record Writing (xs : List Token) (at : ℕ) (out₀ : List ℕ) (count behind : ℕ) (out : List ℕ) (left : List Token) : Type 0 where
   pub counted : count + length left ≡ length xs
   pub same : length out ≡ length out₀
@@ -24,50 +19,32 @@ pub record Writing (xs : List Token) (at : ℕ) (out₀ : List ℕ) (count behin
   pub whole : (after : List ℕ) (n : ℕ) → Wrote behind (lines left) out after n → Wrote at (lines xs) out₀ after n
 
 -- at first all are left
-module _ {xs : List Token} where
-  pub measured-start : Measured xs 0 0 xs
-  measured-start = record { counted = omega arith; sized = omega arith }
-
-  pub writing-start : {at : ℕ} {out : List ℕ} → at + length (lines xs) ≤ length out → Writing xs at out 0 at out xs
-  writing-start h = record { counted = omega arith; same = refl; room = h; whole = λ after n f. f }
+pub writing-start : {xs : List Token} {at : ℕ} {out : List ℕ} → at + length (lines xs) ≤ length out → Writing xs at out 0 at out xs
+writing-start h = record { counted = omega arith; same = refl; room = h; whole = λ after n f. f }
 
 -- one token more is done
-module _ {left next : List Token} {x : Token} (e : left ≡ x ∷ next) where
-  length-left : length (lines left) ≡ length (line x) + length (lines next)
-  length-left = ap (λ l. length (lines l)) e ∙ length-lines x next
+module _ {left next : List Token} {x : Token} (e : left ≡ x ∷ next) {xs : List Token} {at count behind : ℕ} {out₀ out : List ℕ} (w : Writing xs at out₀ count behind out left) where
+  pub count-line : count + 1 ≤ length xs
+  count-line = omega (arith, w .counted, ap length e)
 
-  pub measured-next : {xs : List Token} {count bytes : ℕ} → Measured xs count bytes left → Measured xs (count + 1) (bytes + length (line x)) next
-  measured-next m = record { counted = omega (arith, m .counted, ap length e); sized = omega (arith, m .sized, length-left) }
+  pub room-line : behind + length (line x) ≤ length out
+  room-line = omega (arith, w .room, length-left e)
 
-  module _ {xs : List Token} {at count behind : ℕ} {out₀ out : List ℕ} (w : Writing xs at out₀ count behind out left) where
-    pub count-line : count + 1 ≤ length xs
-    count-line = omega (arith, w .counted, ap length e)
-
-    pub room-line : behind + length (line x) ≤ length out
-    room-line = omega (arith, w .room, length-left)
-
-    pub writing-next : {n : ℕ} {after : List ℕ} → Wrote behind (line x) out after n → length after ≡ length out → Writing xs at out₀ (count + 1) n after next
-    unfolding lines
-    writing-next f s =
-        record {
-          counted = omega (arith, w .counted, ap length e);
-          same = s ∙ w .same;
-          room = omega (arith, w .room, f .behind, length-left);
-          whole = λ after n g. w .whole after n (rw e (wrote-both f g (omega (arith, w .room, length-left))));
-        }
+  pub writing-next : {n : ℕ} {after : List ℕ} → Wrote behind (line x) out after n → length after ≡ length out → Writing xs at out₀ (count + 1) n after next
+  unfolding lines
+  writing-next f s =
+      record {
+        counted = omega (arith, w .counted, ap length e);
+        same = s ∙ w .same;
+        room = omega (arith, w .room, f .behind, length-left e);
+        whole = λ after n g. w .whole after n (rw e (wrote-both f g (omega (arith, w .room, length-left e))));
+      }
 
 -- none is left
-module _ {xs left : List Token} (e : left ≡ []) where
-  pub measured-end : {count bytes n : ℕ} → Measured xs count bytes left → n ≡ length (head count) → n + bytes ≡ length (text xs)
+module _ {xs left : List Token} (e : left ≡ []) {at count behind : ℕ} {out₀ out : List ℕ} (w : Writing xs at out₀ count behind out left) where
+  pub count-end : count ≡ length xs
+  count-end = omega (arith, w .counted, ap length e)
+
+  pub writing-end : Wrote at (lines xs) out₀ out behind
   unfolding lines
-  measured-end {count} m h =
-      let c : count ≡ length xs = omega (arith, m .counted, ap length e) in
-      omega (arith, h, ap (λ n. length (head n)) c, length-text xs, m .sized, ap (λ l. length (lines l)) e)
-
-  module _ {at count behind : ℕ} {out₀ out : List ℕ} (w : Writing xs at out₀ count behind out left) where
-    pub count-end : count ≡ length xs
-    count-end = omega (arith, w .counted, ap length e)
-
-    pub writing-end : Wrote at (lines xs) out₀ out behind
-    unfolding lines
-    writing-end = w .whole out behind (rw e (record { bytes = sym (put-nil behind out (omega (arith, w .room))); behind = sym (add-zero behind) }))
+  writing-end = w .whole out behind (rw e (record { bytes = sym (put-nil behind out (omega (arith, w .room))); behind = sym (add-zero behind) }))

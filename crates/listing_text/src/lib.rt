@@ -1,14 +1,13 @@
-// The listing of a source, as document 01 shows it, written into a lent buffer. What its text is stands in specs/.
+// The listing of a source, as document 01 shows it, written into a lent buffer. What its text is stands in listing_form.
 ghost use Prim.Native.Nat.{_+_, _≤_, _<_};
 ghost use mathlib.Core.Path.{_≡_};
-ghost use mathlib.Core.List.{[], _∷_};
 ghost use lib.ListN.{length};
 ghost use lib.Seq.{slice};
-ghost use lib.Dec.{leb};
 ghost use Rattle.scanner.specs.Following.{Sound, rest};
-ghost use Rattle.listing_text.specs.Listing.{decimal, field, line, lines, head, text};
-ghost use Rattle.listing_text.specs.Listed.{outcome, written, listed};
-ghost use Rattle.listing_text.specs.Put.{Wrote};
+ghost use Rattle.listing_form.specs.Listing.{decimal, field, line, lines, head, text};
+ghost use Rattle.listing_form.specs.Put.{Wrote};
+ghost use Rattle.listing_text.specs.Listed.{outcome, listed};
+use listing_form::number_len;
 use refusals::Refusal;
 use scanner::Opened;
 use scanner::Reader;
@@ -25,64 +24,22 @@ pub enum Listed {
 pub fn list(src: &[u8], out: &mut [u8]) -> Listed
     ensures { λ r. ⌜ outcome r (now (out .exit)) ≡ listed (now (src .entry)) (now (out .entry)) ⌝ }
 {
-    match Reader::open(src) {
-        Opened::Ready(start) => list_from(src, start, out),
+    match listing_size::open_fitting(src, out.len()) {
+        Opened::Ready(start) => Listed::Written(put_text(out, src, start)),
         Opened::Refused(refusal) => Listed::Refused(refusal),
-    }
-}
-
-// The listing of the tokens from a reader on. Nothing is written where it has no room.
-fn list_from(src: &[u8], start: Reader, out: &mut [u8]) -> Listed
-    requires { ⌜ Sound (now src) start ⌝ }
-    ensures { λ r. ⌜ outcome r (now (out .exit)) ≡ written (text (rest (now (src .entry)) start)) (now (out .entry)) ⌝ }
-{
-    if fits(src, start, out.len()) {
-        Listed::Written(put_text(out, src, start))
-    } else {
-        Listed::Refused(Refusal::NoRoom)
-    }
-}
-
-// Whether `room` bytes are enough. The first line has at most 13 bytes, and each token's at most 15; only less is measured.
-fn fits(src: &[u8], start: Reader, room: usize) -> bool
-    requires { ⌜ Sound (now src) start ⌝ }
-    ensures { λ r. ⌜ r ≡ leb (length (text (rest (now (src .entry)) start))) room ⌝ }
-{
-    if room >= 13 + 15 * src.len() {
-        true
-    } else {
-        measure(src, start) <= room
-    }
-}
-
-// How many bytes the listing of the tokens from a reader on has.
-fn measure(src: &[u8], start: Reader) -> usize
-    requires { ⌜ Sound (now src) start ⌝ }
-    ensures { λ r. ⌜ r ≡ length (text (rest (now (src .entry)) start)) ⌝ }
-{
-    let mut tokens: u32 = 0;
-    let mut bytes: usize = 0;
-    let mut reader = start;
-    loop {
-        let Scan::Found(token, next) = reader.scan(src) else {
-            return head_len(tokens) + bytes;
-        };
-        tokens += 1;
-        bytes += line_len(token);
-        reader = next;
     }
 }
 
 // Each function `put_..` writes at a place of `out` where there is room, changes nothing else, and answers the place behind.
 
-// The whole text. The first line has 9 bytes or more: the lines are put from there on while their number is not known, and then moved up.
+// The whole text. The first line has 8 bytes and the digits of a number: the lines are put as if that had one, and moved up by the others.
 fn put_text(out: &mut [u8], src: &[u8], start: Reader) -> usize
     requires { ⌜ Sound (now src) start ⌝ }
     requires { ⌜ length (text (rest (now src) start)) ≤ length (now out) ⌝ }
     ensures { λ r. ⌜ Wrote 0 (text (rest (now (src .entry)) start)) (now (out .entry)) (now (out .exit)) r ⌝ }
 {
     let lines = put_lines(out, 9, src, start);
-    let by = head_len(lines.tokens) - 9;
+    let by = number_len(lines.tokens) - 1;
     let behind = put_up(out, 9, lines.behind, by);
     put_head(out, 0, lines.tokens);
     behind
@@ -153,7 +110,8 @@ fn put_field(out: &mut [u8], at: usize, n: u32, b: u8) -> usize
     ensures { λ r. ⌜ Wrote at (field n b) (now (out .entry)) (now (out .exit)) r ⌝ }
 {
     let behind = put_number(out, at, n);
-    put_byte(out, behind, b)
+    out[behind] = b;
+    behind + 1
 }
 
 // The digits of a number, from the last one to the first.
@@ -184,54 +142,4 @@ fn put_bytes(out: &mut [u8], at: usize, bytes: &[u8]) -> usize
         i += 1;
     }
     at + i
-}
-
-// One byte.
-fn put_byte(out: &mut [u8], at: usize, b: u8) -> usize
-    requires { ⌜ at < length (now out) ⌝ }
-    ensures { λ r. ⌜ Wrote at (b ∷ []) (now (out .entry)) (now (out .exit)) r ⌝ }
-{
-    out[at] = b;
-    at + 1
-}
-
-// How many bytes a token's line has.
-fn line_len(token: Token) -> usize
-    ensures { λ r. ⌜ r ≡ length (line token) ⌝ }
-{
-    number_len(token.kind) + number_len(token.start.0) + number_len(token.end.0) + 3
-}
-
-// How many bytes the first line has.
-fn head_len(n: u32) -> usize
-    ensures { λ r. ⌜ (r ≡ length (head n)) × (r ≤ 18) ⌝ }
-{
-    number_len(n) + 8
-}
-
-// How many digits a number has: ten at most.
-fn number_len(n: u32) -> usize
-    ensures { λ r. ⌜ (r ≡ length (decimal n)) × (r ≤ 10) ⌝ }
-{
-    if n < 10 {
-        1
-    } else if n < 100 {
-        2
-    } else if n < 1_000 {
-        3
-    } else if n < 10_000 {
-        4
-    } else if n < 100_000 {
-        5
-    } else if n < 1_000_000 {
-        6
-    } else if n < 10_000_000 {
-        7
-    } else if n < 100_000_000 {
-        8
-    } else if n < 1_000_000_000 {
-        9
-    } else {
-        10
-    }
 }

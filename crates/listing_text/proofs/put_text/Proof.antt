@@ -9,9 +9,9 @@ use lib.ListN.{length}
 use lib.Seq.{slice}
 use Rattle.tokens.specs.declared.Token.{Token}
 use Rattle.scanner.specs.Following.{rest}
-use Rattle.listing_text.specs.Listing.{lines, head, text}
-use Rattle.listing_text.specs.Put.{Wrote, wrote-up}
-use Rattle.listing_text.specs.Numbers.{head-least, text-parts, length-text}
+use Rattle.listing_form.specs.Listing.{lines, head, text}
+use Rattle.listing_form.specs.Put.{Wrote, wrote-up}
+use Rattle.listing_form.specs.Numbers.{length-head, head-least, text-parts, length-text}
 use Rattle.listing_text.proofs.put_text.Statement.{statement}
 use Rattle.listing_text.proofs.put_text.Tie as tie
 
@@ -30,18 +30,21 @@ put-lines-requires c κs =
     let xs = rest (a .args .src .now) (a .args .start) in
     (a .pre .0, omega (arith, a .pre .1, length-text xs, head-least (length xs)))
 
-head-len-requires : tie.Need-head-len-requires
-head-len-requires c κs = search needs
+number-len-requires : tie.Need-number-len-requires
+number-len-requires c κs = search needs
 
 sub-by : tie.Need-sub-by
-sub-by c = omega (arith, head-least (c .before .before .before .put-lines .result .tokens))
+sub-by c =
+    let n = c .before .before .before .put-lines .result .tokens in
+    omega (arith, head-least n, length-head n)
 
 put-up-requires : tie.Need-put-up-requires
 put-up-requires c κs =
     let p = c .before .before .before .before in
     let a = p .before .before .before .before in
+    let n = p .put-lines .result .tokens in
     let m = length-parts (rest (a .args .src .now) (a .args .start)) (p .put-lines .ensures .0) in
-    (omega arith, omega (arith, a .pre .1, m, head-least (p .put-lines .result .tokens), p .put-lines .kept .0))
+    (omega arith, omega (arith, a .pre .1, m, head-least n, length-head n, p .put-lines .kept .0))
 
 put-head-requires : tie.Need-put-head-requires
 put-head-requires c κs =
@@ -62,7 +65,7 @@ returns c =
     let a = p .before .before .before .before in
     let n = p .put-lines .result .tokens in
     text-up (rest (a .args .src .now) (a .args .start)) (p .put-lines .ensures .0) (p .put-lines .ensures .1) (u .put-up .ensures) (h .put-head .ensures)
-    (omega (arith, head-least n)) (a .pre .1)
+    (omega (arith, head-least n, length-head n)) (a .pre .1)
 
 pub put-text-spec : {M : Type 1} → statement M
-put-text-spec = tie.close (tie.spec put-lines-requires head-len-requires sub-by put-up-requires put-head-requires same-length returns)
+put-text-spec = tie.close (tie.spec put-lines-requires number-len-requires sub-by put-up-requires put-head-requires same-length returns)

@@ -5,7 +5,7 @@ use mathlib.Core.List.{[], _∷_, map}
 use Rattle.tokens.specs.declared.Mode.the-variants.{Normal}
 use Rattle.tokens.specs.Tokens.{ascii, tables-1}
 use Rattle.tokens.specs.Scan.{list-from, tokens}
-use Rattle.listing_text.specs.Listing.{decimal, text}
+use Rattle.listing_form.specs.Listing.{decimal, text}
 
 numbers : map decimal (0 ∷ 9 ∷ 10 ∷ 82 ∷ 100 ∷ 65535 ∷ [])
     ≡ ascii "0" ∷ ascii "9" ∷ ascii "10" ∷ ascii "82" ∷ ascii "100" ∷ ascii "65535" ∷ []

@@ -1,10 +1,10 @@
--- `listing_text::head_len` meets its contract: seven bytes of text, the number, and LF.
+-- `listing_size::head_len` meets its contract: seven bytes of text, the number, and LF.
 -- Assumes nothing.
 use native.Mathlib.Omega.{arith}
 use borrow.Author.Needs.{needs}
-use Rattle.listing_text.specs.Numbers.{length-head}
-use Rattle.listing_text.proofs.head_len.Statement.{statement}
-use Rattle.listing_text.proofs.head_len.Tie as tie
+use Rattle.listing_form.specs.Numbers.{length-head}
+use Rattle.listing_size.proofs.head_len.Statement.{statement}
+use Rattle.listing_size.proofs.head_len.Tie as tie
 
 number-len-requires : tie.Need-number-len-requires
 number-len-requires c κs = search needs

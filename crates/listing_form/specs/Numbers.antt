@@ -1,7 +1,7 @@
 -- The digits of a number: below ten the number itself, else those of its tenth part and then the last one. A number of turns above
 -- the number is enough, and more change nothing. How long the texts are follows from there. Assumes nothing.
 use Prim.Native.Nat.{ℕ, zero, suc, _+_, _*_, _/_, _%_, _^_, _≤_, _<_}
-use mathlib.Core.Path.{_≡_, refl}
+use mathlib.Core.Path.{_≡_, refl, ap, _∙_}
 use mathlib.Core.List.{List, [], _∷_, _++_}
 use native.Mathlib.Nat.{pow-suc}
 use native.Mathlib.Omega.{arith}
@@ -10,7 +10,7 @@ use lib.Dec.{ltb}
 use borrow.Author.Tests.{ltb-true, ltb-false, lt-ltb, le-ltb}
 use Rattle.patterns.specs.Bools.{by-test}
 use Rattle.tokens.specs.declared.Token.{Token}
-use Rattle.listing_text.specs.Listing.{digit, digits, decimal, space, lf, field, line, lines, head, text}
+use Rattle.listing_form.specs.Listing.{digit, digits, decimal, space, lf, field, line, lines, head, text}
 
 enough : (k j n : ℕ) → n < k → n < j → digits k n ≡ digits j n
 unfolding digits
@@ -79,6 +79,9 @@ head-least n = omega (arith, length-head n, decimal-some n)
 pub length-lines : (x : Token) (xs : List Token) → length (lines (x ∷ xs)) ≡ length (line x) + length (lines xs)
 unfolding lines
 length-lines x xs = length-append (line x) (lines xs)
+
+pub length-left : {left next : List Token} {x : Token} → left ≡ x ∷ next → length (lines left) ≡ length (line x) + length (lines next)
+length-left {next = next} {x} e = ap (λ l. length (lines l)) e ∙ length-lines x next
 
 -- the first line and then the others
 pub text-parts : (xs : List Token) → text xs ≡ head (length xs) ++ lines xs

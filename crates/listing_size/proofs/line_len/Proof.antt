@@ -1,10 +1,10 @@
--- `listing_text::line_len` meets its contract: three numbers and a byte behind each, and no number of 32 bits has more than ten digits.
+-- `listing_size::line_len` meets its contract: three numbers and a byte behind each, and no number of 32 bits has more than ten digits.
 -- Assumes nothing.
 use native.Mathlib.Omega.{arith}
 use borrow.Author.Needs.{needs}
-use Rattle.listing_text.specs.Numbers.{length-line}
-use Rattle.listing_text.proofs.line_len.Statement.{statement}
-use Rattle.listing_text.proofs.line_len.Tie as tie
+use Rattle.listing_form.specs.Numbers.{length-line}
+use Rattle.listing_size.proofs.line_len.Statement.{statement}
+use Rattle.listing_size.proofs.line_len.Tie as tie
 
 number-len-requires : tie.Need-number-len-requires
 number-len-requires c κs = search needs

@@ -1,4 +1,4 @@
--- `listing_text::fits` meets its contract: either no listing of such a source is longer than the room, or it is measured.
+-- `listing_size::fits` meets its contract: either no listing of such a source is longer than the room, or it is measured.
 -- Assumes nothing.
 use mathlib.Core.Path.{sym, ap}
 use native.Mathlib.Omega.{arith}
@@ -7,10 +7,10 @@ use borrow.Author.Tests.{le-leb}
 use lib.ListN.{length}
 use lib.Dec.{leb}
 use Rattle.scanner.specs.Following.{rest}
-use Rattle.listing_text.specs.Listing.{text}
-use Rattle.listing_text.specs.Sizes.{text-most}
-use Rattle.listing_text.proofs.fits.Statement.{statement}
-use Rattle.listing_text.proofs.fits.Tie as tie
+use Rattle.listing_form.specs.Listing.{text}
+use Rattle.listing_size.specs.Sizes.{text-most}
+use Rattle.listing_size.proofs.fits.Statement.{statement}
+use Rattle.listing_size.proofs.fits.Tie as tie
 
 mul-if1 : tie.Need-mul-if1
 mul-if1 c = search needs

@@ -1,9 +1,9 @@
--- `listing_text::number_len` meets its contract: each answer stands between two tests, which are powers of ten.
+-- `listing_form::number_len` meets its contract: each answer stands between two tests, which are powers of ten.
 -- Assumes nothing.
 use native.Mathlib.Omega.{arith}
-use Rattle.listing_text.specs.Numbers.{length-one, decimal-length}
-use Rattle.listing_text.proofs.number_len.Statement.{statement}
-use Rattle.listing_text.proofs.number_len.Tie as tie
+use Rattle.listing_form.specs.Numbers.{length-one, decimal-length}
+use Rattle.listing_form.proofs.number_len.Statement.{statement}
+use Rattle.listing_form.proofs.number_len.Tie as tie
 
 returns : tie.Need-returns
 returns c = omega (arith, length-one (c .before .args .n) (omega arith))

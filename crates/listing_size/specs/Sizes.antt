@@ -20,8 +20,8 @@ use Rattle.tokens.specs.ListLaws.{first-all}
 use Rattle.scanner.specs.declared.Reader.{Reader}
 use Rattle.scanner.specs.Reading.{source-limit}
 use Rattle.scanner.specs.Following.{Sound, rest, rest-most}
-use Rattle.listing_text.specs.Listing.{line, lines, text}
-use Rattle.listing_text.specs.Numbers.{decimal-short, length-line, length-head, length-lines, length-text}
+use Rattle.listing_form.specs.Listing.{line, lines, text}
+use Rattle.listing_form.specs.Numbers.{decimal-short, length-line, length-head, length-lines, length-text}
 
 -- what every token of a source within the limit is
 record Small (x : Token) : Type 0 where

@@ -114,6 +114,12 @@ wrote-both {at} {a = a} {b} {x} {y} f g h =
       behind = omega (arith, length-append a b);
     }
 
+-- and a byte behind the first
+pub wrote-last : {at r : ℕ} {a x y : List ℕ} (b : ℕ) → Wrote at a x y r → at + length a < length x → Wrote at (a ++ (b ∷ [])) x (set y r b) (r + 1)
+wrote-last {at} {r} {a} {x} {y} b f h =
+    let l : r < length y = omega (arith, f .behind, ap length (f .bytes), length-put at a x (omega arith)) in
+    wrote-both f (record { bytes = sym (put-byte r b y l); behind = omega arith }) (omega arith)
+
 -- bytes put at a place, put again further up, and then a text in front of them
 pub wrote-up : {at up k r s : ℕ} {t bs x y z w : List ℕ} → Wrote at bs x y k → Wrote up (slice at k y) y z r → Wrote 0 t z w s → at ≤ up → up ≡ length t
     → length t + length bs ≤ length x → Wrote 0 (t ++ bs) x w r

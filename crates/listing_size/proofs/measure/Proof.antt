@@ -1,4 +1,4 @@
--- `listing_text::measure` meets its contract. The loop's invariant: the tokens so far and those that are left are all, and so are the
+-- `listing_size::measure` meets its contract. The loop's invariant: the tokens so far and those that are left are all, and so are the
 -- bytes of their lines. Assumes nothing.
 use Prim.Native.Nat.{_-_}
 use mathlib.Core.Path.{sym, _∙_}
@@ -8,10 +8,10 @@ use lib.ListN.{length}
 use Rattle.scanner.specs.declared.Scan.the-variants.{Found}
 use Rattle.scanner.specs.Following.{Sound, Onward, says, rest, rest-end, rest-more}
 use Rattle.scanner.proofs.Answers.{at-end}
-use Rattle.listing_text.specs.Sizes.{count-fits, lines-fit}
-use Rattle.listing_text.specs.Turns.{Measured, measured-start, measured-next, measured-end}
-use Rattle.listing_text.proofs.measure.Statement.{statement}
-use Rattle.listing_text.proofs.measure.Tie as tie
+use Rattle.listing_size.specs.Sizes.{count-fits, lines-fit}
+use Rattle.listing_size.specs.Measuring.{Measured, measured-start, measured-next, measured-end}
+use Rattle.listing_size.proofs.measure.Statement.{statement}
+use Rattle.listing_size.proofs.measure.Tie as tie
 
 abbrev Inv-loop : tie.InvT-loop
 Inv-loop src tokens₀ bytes₀ reader₀ tokens bytes reader = Sound src reader × Measured (rest src reader₀) tokens bytes (rest src reader)
