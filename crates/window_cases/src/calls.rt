@@ -27,7 +27,7 @@ fn open(src: &[u8], room: &[u32]) -> Window {
     let answer = given.answer;
     match answer {
         DoneAnswer::Done => say::text(b"done"),
-        DoneAnswer::Refused(r) => say::refusal(r),
+        DoneAnswer::Refused(r) => say::refused(refusals::number(r)),
     }
     given.window
 }

@@ -11,28 +11,31 @@ pub(crate) struct Lent {
 // Where the bytes stand that no line has.
 const FAR: usize = 20000;
 
-// The same room, and another source.
-fn with_source(lent: Lent, from: usize, to: usize) -> Lent {
-    Lent {
-        from,
-        to,
-        numbers: lent.numbers,
-    }
-}
-
-// The source is what a line, from `at` to `end`, has behind `source `.
-fn source_in_line(lent: Lent, at: usize, end: usize) -> Lent {
+// The source that a line, from `at` to `end`, has behind `source `.
+fn source_in_line(at: usize, end: usize, numbers: usize) -> Lent {
     let from = lines::narrow(at) as usize + 7;
     if end < from {
-        return with_source(lent, end, end);
+        return Lent {
+            from: end,
+            to: end,
+            numbers,
+        };
     }
-    with_source(lent, from, end)
+    Lent {
+        from,
+        to: end,
+        numbers,
+    }
 }
 
-// The source is bytes that no line has.
-fn source_afar(lent: Lent, asked: Asked) -> Lent {
+// The source that no line has.
+fn source_afar(asked: Asked, numbers: usize) -> Lent {
     let from = FAR + lines::narrow(asked.first) as usize;
-    with_source(lent, from, from + lines::narrow(asked.second) as usize)
+    Lent {
+        from,
+        to: from + lines::narrow(asked.second) as usize,
+        numbers,
+    }
 }
 
 // Sets all numbers to 7.
@@ -44,23 +47,20 @@ fn fill(room: &mut [u32]) {
     }
 }
 
-// The same source, and a room of so many numbers, each of them 7.
-fn with_room(lent: Lent, numbers: usize, room: &mut [u32]) -> Lent {
-    fill(room);
-    Lent {
-        from: lent.from,
-        to: lent.to,
-        numbers,
-    }
-}
-
-// What is lent from a line on, which stands from `at` to `end`, by its first letter.
+// What is lent from a line on, which stands from `at` to `end`, by its first letter: another source, or another room, its numbers 7.
 pub(crate) fn after(lent: Lent, asked: Asked, at: usize, end: usize, room: &mut [u32]) -> Lent {
     let letter = asked.letter;
     match letter {
-        b's' => source_in_line(lent, at, end),
-        b'f' => source_afar(lent, asked),
-        b'g' => with_room(lent, asked.first, room),
+        b's' => source_in_line(at, end, lent.numbers),
+        b'f' => source_afar(asked, lent.numbers),
+        b'g' => {
+            fill(room);
+            Lent {
+                from: lent.from,
+                to: lent.to,
+                numbers: asked.first,
+            }
+        }
         _ => lent,
     }
 }

@@ -4,8 +4,8 @@
 // A line is known by its first letter. The calls: next, peek N, more, bookmark, restore N, drop N (remove), index, hex (to pattern
 // mode), jump. Each says its answer, and where the window given back is the one handed in. `source TEXT` sets the source, `far A N` takes
 // N bytes from A on of 65,536 spaces and the bytes FF 41 E3 80 80; `give N` lends N numbers, each 7; `open` opens a window; `view` says the
-// window and the room. A capital letter sets a field of the window's record: Bytes, W, Fetched, Current, Place, Live, and Mark I N,
-// the place I of the bookmarks. `#` is a title.
+// window, its mode by number (normal 0, pattern 1, jump 2), and the room. A capital letter sets a field of the window's record: Bytes, W,
+// Fetched, Current, Place, Live, and Mark I N, the place I of the bookmarks. `#` is a title.
 ghost use Prim.Native.Nat.{_≤_};
 ghost use lib.ListN.{length};
 

@@ -6,7 +6,7 @@ use tokens::TokenIndex;
 use window::Window;
 
 // A number for each mode.
-fn number(m: Mode) -> u32 {
+pub(crate) fn number(m: Mode) -> u32 {
     match m {
         Mode::Normal => 0,
         Mode::HexPattern => 1,
@@ -42,16 +42,11 @@ fn counts(a: Window, b: Window) -> bool {
         & (a.current.0 == b.current.0)
 }
 
-// Whether two windows are.
-fn windows(a: Window, b: Window) -> bool {
-    let marks = a.bookmarks;
-    let others = b.bookmarks;
-    counts(a, b) & readers(a.reader, b.reader) & places(marks, others)
-}
-
 // Says where the window that a call gave back is the one handed in, and hands it on.
 pub(crate) fn remark(before: Window, after: Window) -> Window {
-    if windows(before, after) {
+    let marks = before.bookmarks;
+    let others = after.bookmarks;
+    if counts(before, after) & readers(before.reader, after.reader) & places(marks, others) {
         say::text(b", same window");
     }
     after

@@ -1,8 +1,7 @@
 // What is said on standard output.
+use crate::same;
 use libc::STDOUT_FILENO;
-use refusals::Refusal;
 use scanner::Reader;
-use tokens::Mode;
 use tokens::TokenIndex;
 use window::TokenAnswer;
 use window::Window;
@@ -13,20 +12,10 @@ pub(crate) fn text(bytes: &[u8]) {
     io::write_all(STDOUT_FILENO, bytes);
 }
 
-// A number in decimal.
-fn number(n: usize) {
-    io::print_decimal(STDOUT_FILENO, n as u64);
-}
-
-// A number with text before it.
-fn named(name: &[u8], n: usize) {
+// A number in decimal, with text before it.
+fn named(name: &[u8], n: u32) {
     text(name);
-    number(n);
-}
-
-// The same for a number of 32 bits.
-fn named_u32(name: &[u8], n: u32) {
-    named(name, n as usize);
+    io::print_decimal(STDOUT_FILENO, n as u64);
 }
 
 // A truth by its name.
@@ -39,15 +28,15 @@ fn truth(n: u32) {
 }
 
 // A refusal by its number.
-pub(crate) fn refusal(r: Refusal) {
-    named_u32(b"refused ", refusals::number(r));
+pub(crate) fn refused(number: u32) {
+    named(b"refused ", number);
 }
 
 // A token as document 01 writes it.
 fn token(kind: u32, start: u32, end: u32) {
-    number(kind as usize);
-    named_u32(b" ", start);
-    named_u32(b"..", end);
+    named(b"", kind);
+    named(b" ", start);
+    named(b"..", end);
 }
 
 // What peek answers.
@@ -55,7 +44,7 @@ pub(crate) fn token_answer(answer: TokenAnswer) {
     match answer {
         TokenAnswer::Token(t) => token(t.kind, t.start.0, t.end.0),
         TokenAnswer::None => text(b"none"),
-        TokenAnswer::Refused(r) => refusal(r),
+        TokenAnswer::Refused(r) => refused(refusals::number(r)),
     }
 }
 
@@ -66,26 +55,17 @@ pub(crate) fn told(answer: Told) {
         0 => text(b"none"),
         1 => token(answer.first, answer.second, answer.third),
         2 => truth(answer.first),
-        3 => number(answer.first as usize),
+        3 => named(b"", answer.first),
         4 => text(b"done"),
-        _ => named_u32(b"refused ", answer.first),
-    }
-}
-
-// A mode by its name.
-fn mode(m: Mode) {
-    match m {
-        Mode::Normal => text(b", normal"),
-        Mode::HexPattern => text(b", pattern"),
-        Mode::HexJump => text(b", jump"),
+        _ => refused(answer.first),
     }
 }
 
 // The mode of a reader, and where it stands.
 fn position(reader: Reader) {
-    let m = reader.mode;
-    mode(m);
-    named_u32(b" at ", reader.place.0);
+    let mode = reader.mode;
+    named(b", mode ", same::number(mode));
+    named(b" at ", reader.place.0);
 }
 
 // The first bookmarks, so many of them as are live.
@@ -95,21 +75,9 @@ fn bookmarks(marks: [TokenIndex; 64], live: usize) {
         if live <= i {
             return;
         }
-        named_u32(b" @", marks[i].0);
+        named(b" @", marks[i].0);
         i += 1;
     }
-}
-
-// A window, on a line.
-fn window(w: Window) {
-    named_u32(b"bytes ", w.bytes);
-    named(b", W ", w.slots);
-    named_u32(b", fetched ", w.fetched.0);
-    named_u32(b", current ", w.current.0);
-    position(w.reader);
-    named_u32(b", live ", w.live);
-    let marks = w.bookmarks;
-    bookmarks(marks, w.live as usize);
 }
 
 // The numbers of a room, on a line.
@@ -117,14 +85,21 @@ fn room(numbers: &[u32]) {
     text(b"\nroom:");
     let mut i: usize = 0;
     while i < numbers.len() {
-        named_u32(b" ", numbers[i]);
+        named(b" ", numbers[i]);
         i += 1;
     }
 }
 
-// A window, and its room.
+// A window and its room, on a line each.
 pub(crate) fn view(w: Window, numbers: &[u32]) -> Window {
-    window(w);
+    named(b"bytes ", w.bytes);
+    named(b", W ", lines::narrow(w.slots));
+    named(b", fetched ", w.fetched.0);
+    named(b", current ", w.current.0);
+    position(w.reader);
+    named(b", live ", w.live);
+    let marks = w.bookmarks;
+    bookmarks(marks, w.live as usize);
     room(numbers);
     w
 }

@@ -17,17 +17,17 @@ loop-holds c = search needs
 returns : tie.Need-returns Inv-loop μ-loop
 returns c = search needs
 
-slice-aggregate-named-u32 : tie.Need-slice-aggregate-named-u32 Inv-loop μ-loop
-slice-aggregate-named-u32 c = search needs
+slice-aggregate-named : tie.Need-slice-aggregate-named Inv-loop μ-loop
+slice-aggregate-named c = search needs
 
-mul-named-u32 : tie.Need-mul-named-u32 Inv-loop μ-loop
-mul-named-u32 c = search needs
+mul-named : tie.Need-mul-named Inv-loop μ-loop
+mul-named c = search needs
 
-element-copy-out-named-u32 : tie.Need-element-copy-out-named-u32 Inv-loop μ-loop
-element-copy-out-named-u32 c = search needs
+element-copy-out-named : tie.Need-element-copy-out-named Inv-loop μ-loop
+element-copy-out-named c = search needs
 
-named-u32-requires : tie.Need-named-u32-requires Inv-loop μ-loop
-named-u32-requires c κs = search needs
+named-requires : tie.Need-named-requires Inv-loop μ-loop
+named-requires c κs = search needs
 
 add-i : tie.Need-add-i Inv-loop μ-loop
 add-i c = search needs
@@ -49,10 +49,10 @@ bookmarks-spec =
     μ-loop
     loop-holds
     returns
-    slice-aggregate-named-u32
-    mul-named-u32
-    element-copy-out-named-u32
-    named-u32-requires
+    slice-aggregate-named
+    mul-named
+    element-copy-out-named
+    named-requires
     add-i
     loop-less
     loop-again

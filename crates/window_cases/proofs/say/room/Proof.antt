@@ -21,17 +21,17 @@ text-requires c κs = search needs
 loop-holds : tie.Need-loop-holds Inv-loop μ-loop
 loop-holds c = search needs
 
-slice-aggregate-named-u32 : tie.Need-slice-aggregate-named-u32 Inv-loop μ-loop
-slice-aggregate-named-u32 c = search needs
+slice-aggregate-named : tie.Need-slice-aggregate-named Inv-loop μ-loop
+slice-aggregate-named c = search needs
 
-mul-named-u32 : tie.Need-mul-named-u32 Inv-loop μ-loop
-mul-named-u32 c = search needs
+mul-named : tie.Need-mul-named Inv-loop μ-loop
+mul-named c = search needs
 
-shared-slice-read-named-u32 : tie.Need-shared-slice-read-named-u32 Inv-loop μ-loop
-shared-slice-read-named-u32 c = search needs
+shared-slice-read-named : tie.Need-shared-slice-read-named Inv-loop μ-loop
+shared-slice-read-named c = search needs
 
-named-u32-requires : tie.Need-named-u32-requires Inv-loop μ-loop
-named-u32-requires c κs = search needs
+named-requires : tie.Need-named-requires Inv-loop μ-loop
+named-requires c κs = search needs
 
 add-i : tie.Need-add-i Inv-loop μ-loop
 add-i c = search needs
@@ -54,10 +54,10 @@ room-spec =
     slice-aggregate-text
     text-requires
     loop-holds
-    slice-aggregate-named-u32
-    mul-named-u32
-    shared-slice-read-named-u32
-    named-u32-requires
+    slice-aggregate-named
+    mul-named
+    shared-slice-read-named
+    named-requires
     add-i
     loop-less
     loop-again
