@@ -93,7 +93,7 @@ fn look(stream: Stream, room: &[u32], opens: &[usize], asked: Asked) -> ToldGive
     let op = asked.op;
     match op {
         5 => position(event_marks::bookmark(stream, room, opens)),
-        6 => done(event_marks::truncate(stream, room, opens, mark)),
+        6 => done(event_truncating::truncate(stream, room, opens, mark)),
         7 => done(event_marks::remove_bookmark(stream, room, opens, mark)),
         _ => event(event_popping::pop(stream, room, opens)),
     }

@@ -22,13 +22,6 @@ pub(crate) fn new() -> Bench {
     }
 }
 
-// The bench with another stream.
-fn with_stream(b: Bench, stream: Stream) -> Bench {
-    let mut after = b;
-    after.stream = stream;
-    after
-}
-
 // Sets all numbers to 7.
 fn fill_room(room: &mut [u32]) {
     let mut i: usize = 0;
@@ -66,27 +59,36 @@ fn lent(b: Bench, asked: Asked, room: &mut [u32], opens: &mut [usize]) -> Bench 
 fn used(b: Bench, asked: Asked, width: usize, room: &mut [u32], opens: &mut [usize]) -> Bench {
     let numbers = b.numbers;
     let places = b.places;
-    if room.len() < numbers || opens.len() < places {
+    if room.len() < numbers {
         return b;
     }
-    let stream = b.stream;
-    let letter = asked.letter;
-    if b'A' <= letter && letter <= b'Z' {
-        return with_stream(
-            b,
-            forge::set(stream, asked, &mut room[0..numbers], &mut opens[0..places]),
-        );
+    if opens.len() < places {
+        return b;
     }
-    with_stream(
-        b,
-        calls::make(
-            stream,
-            asked,
-            width,
-            &mut room[0..numbers],
-            &mut opens[0..places],
-        ),
-    )
+    let mut after = b;
+    after.stream = act(
+        b.stream,
+        asked,
+        width,
+        &mut room[0..numbers],
+        &mut opens[0..places],
+    );
+    after
+}
+
+// A line that starts with a capital letter sets a field.
+fn act(
+    stream: Stream,
+    asked: Asked,
+    width: usize,
+    room: &mut [u32],
+    opens: &mut [usize],
+) -> Stream {
+    if (b'A' <= asked.letter) & (asked.letter <= b'Z') {
+        forge::set(stream, asked, room, opens)
+    } else {
+        calls::make(stream, asked, width, room, opens)
+    }
 }
 
 // Does what a line asks for, and says the answer.

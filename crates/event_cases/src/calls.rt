@@ -1,118 +1,61 @@
-// Each call of the stream: made, its answer said, and the stream after it handed on.
+// What a line asks of the stream: a call, made by its numbers, or another thing to do with it. What is answered is said, and the stream after
+// it handed on.
 use crate::same;
 use crate::say;
-use event_record::Position;
-use event_record::Span;
-use events::DoneGiven;
+use event_asking::Asked;
+use event_asking::ToldGiven;
 use events::EventAnswer;
-use events::PositionAnswer;
-use events::PositionGiven;
 use events::Stream;
-use lines::Asked;
-use refusals::DoneAnswer;
-use tokens::Offset;
 
-// The calls, and what else a line can ask for.
-enum Call {
-    Open,
-    Token,
-    Error,
-    Begin,
-    End,
-    EndWithError,
-    Bookmark,
-    Truncate,
-    Remove,
-    Pop,
-    Drain,
-    View,
-}
-
-// The calls whose word starts with e, by its length.
-fn in_e(width: usize) -> Call {
-    match width {
-        3 => Call::End,
-        5 => Call::Error,
-        _ => Call::EndWithError,
-    }
-}
-
-// The call that a word names: by its first letter and, where two words share that, by its length.
-fn named(letter: u8, width: usize) -> Call {
-    let short = width == 5;
+// The number of the call that a word names: by its first letter and, where two words share that, by its length.
+fn number(letter: u8, width: usize) -> u32 {
     match letter {
-        b't' => { if short { Call::Token } else { Call::Truncate } }
-        b'b' => { if short { Call::Begin } else { Call::Bookmark } }
+        b't' => { if width == 5 { 0 } else { 6 } }
+        b'b' => { if width == 5 { 2 } else { 5 } }
         b'e' => in_e(width),
-        b'r' => Call::Remove,
-        b'p' => Call::Pop,
-        b'd' => Call::Drain,
-        b'v' => Call::View,
-        _ => Call::Open,
+        b'r' => 7,
+        _ => 8,
     }
 }
 
-// A kind or a message; the greatest stands for all above it.
-fn kind(n: usize) -> u16 {
-    if n < 65535 { n as u16 } else { 65535 }
-}
-
-// The span of the second and the third number.
-fn span(asked: Asked) -> Span {
-    Span {
-        start: Offset(lines::narrow(asked.second)),
-        end: Offset(lines::narrow(asked.third)),
+// The calls whose word starts with e.
+fn in_e(width: usize) -> u32 {
+    match width {
+        3 => 3,
+        5 => 1,
+        _ => 4,
     }
 }
 
-// What is done or refused.
-fn done_given(before: Stream, given: DoneGiven) -> Stream {
-    let answer = given.answer;
+// The call that a line asks for. A number that does not fit is the greatest that does.
+fn named(line: lines::Asked, width: usize) -> Asked {
+    Asked {
+        op: number(line.letter, width),
+        arg: lines::narrow(line.first),
+        start: lines::narrow(line.second),
+        end: lines::narrow(line.third),
+    }
+}
+
+// Says what a call answered, and where the stream that a refused one gave back is not the one handed in.
+fn said(before: Stream, given: ToldGiven) -> Stream {
     let after = given.stream;
-    match answer {
-        DoneAnswer::Done => say::text(b"ok"),
-        DoneAnswer::Refused(r) => {
-            say::refusal(r);
-            same::remark(before, after);
-        }
+    say::told(given.told);
+    if given.told.tag == 5 {
+        same::remark(before, after);
     }
     after
 }
 
-// What bookmark answers.
-fn position_given(before: Stream, given: PositionGiven) -> Stream {
-    let answer = given.answer;
-    let after = given.stream;
-    match answer {
-        PositionAnswer::Position(p) => say::bookmark(p),
-        PositionAnswer::Refused(r) => {
-            say::refusal(r);
-            same::remark(before, after);
-        }
-    }
-    after
+// Makes a call.
+fn call(s: Stream, asked: Asked, room: &mut [u32], opens: &mut [usize]) -> Stream {
+    said(s, event_asking::call(s, room, opens, asked))
 }
 
 // Opens a stream.
 fn open(room: &[u32], opens: &[usize]) -> Stream {
     say::text(b"open");
     Stream::open(room, opens)
-}
-
-// Pops an event.
-fn pop(s: Stream, room: &[u32], opens: &[usize]) -> Stream {
-    let given = event_popping::pop(s, room, opens);
-    let answer = given.answer;
-    let after = given.stream;
-    match answer {
-        EventAnswer::Event(e) => say::event(e),
-        EventAnswer::None => say::text(b"none"),
-        EventAnswer::Refused(r) => {
-            say::refusal(r);
-            same::remark(s, after);
-        }
-    }
-    after
 }
 
 // Pops until there is none: at most once for each slot of four numbers, and once more.
@@ -137,29 +80,27 @@ fn drain(s: Stream, room: &[u32], opens: &[usize]) -> Stream {
     left
 }
 
-// Makes the call that a line names.
+// What else a line can name.
+fn other(s: Stream, letter: u8, room: &[u32], opens: &[usize]) -> Stream {
+    match letter {
+        b'o' => open(room, opens),
+        b'd' => drain(s, room, opens),
+        _ => say::view(s, room, opens),
+    }
+}
+
+// Does what a line names.
 pub(crate) fn make(
     s: Stream,
-    asked: Asked,
+    line: lines::Asked,
     width: usize,
     room: &mut [u32],
     opens: &mut [usize],
 ) -> Stream {
-    let kind = kind(asked.first);
-    let span = span(asked);
-    let mark = Position(asked.first);
-    match named(asked.letter, width) {
-        Call::Open => open(room, opens),
-        Call::Token => done_given(s, event_pushing::push_token(s, room, opens, kind, span)),
-        Call::Error => done_given(s, event_pushing::push_error(s, room, opens, kind, span)),
-        Call::Begin => done_given(s, event_opening::begin(s, room, opens, kind)),
-        Call::End => done_given(s, event_closing::end(s, room, opens)),
-        Call::EndWithError => done_given(s, event_closing::end_with_error(s, room, opens)),
-        Call::Bookmark => position_given(s, event_marks::bookmark(s, room, opens)),
-        Call::Truncate => done_given(s, event_marks::truncate(s, room, opens, mark)),
-        Call::Remove => done_given(s, event_marks::remove_bookmark(s, room, opens, mark)),
-        Call::Pop => pop(s, room, opens),
-        Call::Drain => drain(s, room, opens),
-        Call::View => say::view(s, room, opens),
+    let letter = line.letter;
+    if (letter == b'o') | (letter == b'd') | (letter == b'v') {
+        other(s, letter, &*room, &*opens)
+    } else {
+        call(s, named(line, width), room, opens)
     }
 }

@@ -56,22 +56,28 @@ fn set_inner(opens: &mut [usize], at: usize, n: usize) {
     }
 }
 
+// Another number in one of the rooms.
+fn set_number(asked: Asked, room: &mut [u32], opens: &mut [usize]) {
+    if asked.letter == b'R' {
+        set_room(room, asked.first, lines::narrow(asked.second));
+    } else if asked.letter == b'I' {
+        set_inner(opens, asked.first, asked.second);
+    }
+}
+
+// The record with another field, where the letter is one of a field.
+fn set_field(s: Stream, asked: Asked) -> Stream {
+    let letter = asked.letter;
+    match letter {
+        b'R' | b'I' => s,
+        b'L' | b'G' => spanned(s, letter, span(asked)),
+        _ => counted(s, letter, asked.first),
+    }
+}
+
 // Sets what a line asks for.
 pub(crate) fn set(s: Stream, asked: Asked, room: &mut [u32], opens: &mut [usize]) -> Stream {
     say::text(b"set");
-    let letter = asked.letter;
-    let first = asked.first;
-    let second = asked.second;
-    match letter {
-        b'R' => {
-            set_room(room, first, lines::narrow(second));
-            s
-        }
-        b'I' => {
-            set_inner(opens, first, second);
-            s
-        }
-        b'L' | b'G' => spanned(s, letter, span(asked)),
-        _ => counted(s, letter, first),
-    }
+    set_number(asked, room, opens);
+    set_field(s, asked)
 }

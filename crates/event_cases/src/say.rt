@@ -1,6 +1,6 @@
 // What is said on standard output.
+use event_asking::Told;
 use event_record::Event;
-use event_record::Position;
 use event_record::Span;
 use events::Stream;
 use libc::STDOUT_FILENO;
@@ -29,21 +29,20 @@ pub(crate) fn lent(numbers: usize, places: usize) {
 }
 
 // A refusal by its number.
-pub(crate) fn refusal(r: Refusal) {
-    named_u32(b"refused ", refusals::number(r));
+fn refused(n: usize) {
+    named(b"refused ", n);
 }
 
-// A bookmark by its position.
-pub(crate) fn bookmark(p: Position) {
-    named(b"bookmark ", p.0);
+pub(crate) fn refusal(r: Refusal) {
+    refused(refusals::number(r) as usize);
 }
 
 // An event as its four numbers.
-pub(crate) fn event(e: Event) {
-    named_u32(b"", e.tag);
-    named_u32(b" ", e.kind);
-    named_u32(b" ", e.span.start.0);
-    named_u32(b" ", e.span.end.0);
+fn event(tag: usize, kind: usize, start: usize, end: usize) {
+    named(b"", tag);
+    named(b" ", kind);
+    named(b" ", start);
+    named(b" ", end);
 }
 
 // An event that so many were said before.
@@ -51,7 +50,24 @@ pub(crate) fn next_event(before: usize, e: Event) {
     if 0 < before {
         text(b" ; ");
     }
-    event(e);
+    event(
+        e.tag as usize,
+        e.kind as usize,
+        e.span.start.0 as usize,
+        e.span.end.0 as usize,
+    );
+}
+
+// What a call answered, in words.
+pub(crate) fn told(answer: Told) {
+    let tag = answer.tag;
+    match tag {
+        0 => text(b"none"),
+        1 => event(answer.first, answer.second, answer.third, answer.fourth),
+        3 => named(b"bookmark ", answer.first),
+        4 => text(b"ok"),
+        _ => refused(answer.first),
+    }
 }
 
 // A span as document 01 writes it.
@@ -60,13 +76,18 @@ fn span(name: &[u8], s: Span) {
     named_u32(b"..", s.end.0);
 }
 
+// The numbers of the stream's record.
+fn counts(slots: usize, places: usize, front: usize, count: usize, opened: usize) {
+    named(b"E ", slots);
+    named(b" D ", places);
+    named(b" front ", front);
+    named(b" count ", count);
+    named(b" opened ", opened);
+}
+
 // The stream's record.
 fn stream(s: Stream) {
-    named(b"E ", s.slots);
-    named(b" D ", s.places);
-    named(b" front ", s.front.0);
-    named(b" count ", s.count);
-    named(b" opened ", s.opened);
+    counts(s.slots, s.places, s.front.0, s.count, s.opened);
     named_u32(b" bookmarks ", s.bookmarks);
     span(b" last ", s.last);
     span(b" gone ", s.gone);

@@ -20,7 +20,7 @@ use tokens::Offset;
 pub fn end(stream: Stream, room: &mut [u32], opens: &[usize]) -> DoneGiven
     ensures { λ r. ⌜ done-reply r (now (room .exit)) (now (opens .entry)) ≡ step end-call (state stream (now (room .entry)) (now (opens .entry))) ⌝ }
 {
-    if events::is_sound(stream, &*room, opens) {
+    if event_tests::is_sound(stream, &*room, opens) {
         close_node(stream, room, opens)
     } else {
         events::refused(stream, Refusal::NotAsOpened)
@@ -31,7 +31,7 @@ pub fn end(stream: Stream, room: &mut [u32], opens: &[usize]) -> DoneGiven
 pub fn end_with_error(stream: Stream, room: &mut [u32], opens: &[usize]) -> DoneGiven
     ensures { λ r. ⌜ done-reply r (now (room .exit)) (now (opens .entry)) ≡ step end-with-error (state stream (now (room .entry)) (now (opens .entry))) ⌝ }
 {
-    if events::is_sound(stream, &*room, opens) {
+    if event_tests::is_sound(stream, &*room, opens) {
         fail_node(stream, room, opens)
     } else {
         events::refused(stream, Refusal::NotAsOpened)
@@ -48,7 +48,7 @@ fn close_node(stream: Stream, room: &mut [u32], opens: &[usize]) -> DoneGiven
     }
     let place = stream.opened - 1;
     let inner = opens[place];
-    let begin = events::event_at(stream, &*room, inner);
+    let begin = event_ring::event_at(&*room, stream.slots, stream.front, inner);
     close(stream, room, inner, begin.span.start.0, begin.kind)
 }
 
@@ -66,7 +66,7 @@ fn fail_node(stream: Stream, room: &mut [u32], opens: &[usize]) -> DoneGiven
         let last = stream.last;
         return events::counted(stream, inner, place, last);
     }
-    let begin = events::event_at(stream, &*room, inner);
+    let begin = event_ring::event_at(&*room, stream.slots, stream.front, inner);
     close(stream, room, inner, begin.span.start.0, ERROR_KIND)
 }
 
@@ -88,8 +88,8 @@ fn close(stream: Stream, room: &mut [u32], inner: usize, start: u32, kind: u32) 
         kind,
         span,
     };
-    events::put(stream, room, inner, opening);
-    events::put(stream, room, stream.count, ending);
+    event_ring::put(room, stream.slots, stream.front, inner, opening);
+    event_ring::put(room, stream.slots, stream.front, stream.count, ending);
     events::counted(stream, stream.count + 1, stream.opened - 1, last)
 }
 

@@ -1,13 +1,10 @@
--- What the calls on bookmarks leave: a stream with so many bookmarks, or with the first of its events; and a refused bookmark. Assumes nothing.
+-- What the calls on bookmarks leave: a stream with so many bookmarks; and a refused bookmark. Assumes nothing.
 use Prim.Native.Nat.{ℕ}
 use Rattle.refusals.specs.declared.Refusal.{Refusal}
-use Rattle.event_record.specs.Record.{last-token}
-use Rattle.event_room.specs.Room.{listed}
 use Rattle.events.specs.declared.Stream.{Stream}
 use Rattle.events.specs.declared.PositionAnswer.the-variants as of-position
 use Rattle.events.specs.declared.PositionGiven.{PositionGiven}
 use Rattle.events.specs.Stream.{State, state}
-use Rattle.events.specs.Parts.{counting}
 
 abbrev pub marking : ℕ → Stream → Stream
 marking n t =
@@ -26,11 +23,6 @@ marking n t =
 abbrev pub not-marked : Refusal → Stream → PositionGiven
 not-marked n t = record { answer = of-position.Refused n; stream = t }
 
--- Stream and rooms after each.
+-- Stream and rooms after it.
 abbrev pub marks-left : ℕ → State → State
 marks-left n s = state (marking n (s .stream)) (s .room) (s .opens)
-
-abbrev pub cut-left : ℕ → State → State
-cut-left p s =
-    let t = s .stream in
-    state (counting p (t .opened) (last-token (t .gone) (listed (s .room) (t .front) 0 p)) t) (s .room) (s .opens)

@@ -1,8 +1,8 @@
-// The event stream's calls on bookmarks: made, gone back to, removed.
+// The event stream's calls on bookmarks: one made, one removed.
 ghost use Prim.Native.Nat.{ℕ};
 ghost use mathlib.Core.Path.{_≡_};
 ghost use mathlib.Core.List.{List};
-ghost use Rattle.event_record.specs.Record.{bookmark as bookmark-call, truncate as truncate-call, remove-bookmark};
+ghost use Rattle.event_record.specs.Record.{bookmark as bookmark-call, remove-bookmark};
 ghost use Rattle.events.specs.Stream.{state, answered, step, done-reply, position-reply};
 ghost use Rattle.events.specs.SoundLaws.{Fit};
 ghost use Rattle.event_marks.specs.Parts.{marking, not-marked};
@@ -19,21 +19,10 @@ use refusals::Refusal;
 pub fn bookmark(stream: Stream, room: &[u32], opens: &[usize]) -> PositionGiven
     ensures { λ r. ⌜ position-reply r (now (room .entry)) (now (opens .entry)) ≡ step bookmark-call (state stream (now (room .entry)) (now (opens .entry))) ⌝ }
 {
-    if events::is_sound(stream, room, opens) {
+    if event_tests::is_sound(stream, room, opens) {
         mark_end(stream)
     } else {
         not_marked(stream, Refusal::NotAsOpened)
-    }
-}
-
-// Takes back what was pushed since a position. The bookmark stays live.
-pub fn truncate(stream: Stream, room: &[u32], opens: &[usize], mark: Position) -> DoneGiven
-    ensures { λ r. ⌜ done-reply r (now (room .entry)) (now (opens .entry)) ≡ step (truncate-call mark) (state stream (now (room .entry)) (now (opens .entry))) ⌝ }
-{
-    if events::is_sound(stream, room, opens) {
-        cut(stream, room, mark)
-    } else {
-        events::refused(stream, Refusal::NotAsOpened)
     }
 }
 
@@ -41,14 +30,14 @@ pub fn truncate(stream: Stream, room: &[u32], opens: &[usize], mark: Position) -
 pub fn remove_bookmark(stream: Stream, room: &[u32], opens: &[usize], mark: Position) -> DoneGiven
     ensures { λ r. ⌜ done-reply r (now (room .entry)) (now (opens .entry)) ≡ step (remove-bookmark mark) (state stream (now (room .entry)) (now (opens .entry))) ⌝ }
 {
-    if events::is_sound(stream, room, opens) {
+    if event_tests::is_sound(stream, room, opens) {
         unmark(stream, mark)
     } else {
         events::refused(stream, Refusal::NotAsOpened)
     }
 }
 
-// One bookmark more, where there are not too many. Here and below the rooms are any with which the stream is one, where nothing of them is read.
+// One bookmark more, where there are not too many. Here and below the rooms, which are not read, are any with which the stream is one.
 fn mark_end(stream: Stream) -> PositionGiven
     ensures { λ r. ⌜ ((room opens : List ℕ) → Fit (state stream room opens) → position-reply r room opens ≡ answered bookmark-call (state stream room opens)) ⌝ }
 {
@@ -58,24 +47,6 @@ fn mark_end(stream: Stream) -> PositionGiven
     PositionGiven {
         answer: PositionAnswer::Position(Position(stream.count)),
         stream: marked(stream, stream.bookmarks + 1),
-    }
-}
-
-// Takes back the events from a position on, where they balance.
-fn cut(stream: Stream, room: &[u32], from: Position) -> DoneGiven
-    ensures { λ r. ⌜ ((opens : List ℕ) → Fit (state stream (now (room .entry)) opens) → done-reply r (now (room .entry)) opens ≡ answered (truncate-call from) (state stream (now (room .entry)) opens)) ⌝ }
-{
-    let front = stream.front;
-    if stream.bookmarks == 0 {
-        events::refused(stream, Refusal::NotLive)
-    } else if stream.count < from.0 {
-        events::refused(stream, Refusal::PastTheEnd)
-    } else if event_reading::is_balanced(room, front, from.0, stream.count) {
-        let gone = stream.gone;
-        let last = event_reading::last_token(room, front, from.0, gone);
-        events::counted(stream, from.0, stream.opened, last)
-    } else {
-        events::refused(stream, Refusal::Unbalanced)
     }
 }
 

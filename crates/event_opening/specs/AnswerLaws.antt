@@ -7,15 +7,13 @@ use native.Mathlib.Omega.{arith}
 use lib.ListN.{length, set, take, length-append}
 use lib.Seq.{length-take-le, sets}
 use borrow.Author.Tests.{lt-ltb, le-ltb, le-leb, lt-leb}
-use Rattle.rooms.specs.declared.Slot.{Slot}
 use Rattle.rooms.specs.Stores.{sets-append, sets-take}
 use Rattle.event_record.specs.Record.{begin, done, refused, reply, begun, spare}
 use Rattle.event_room.specs.Room.{write}
-use Rattle.events.specs.declared.Stream.{Stream}
 use Rattle.events.specs.Stream.{State, view, laid, answered}
 use Rattle.events.specs.Parts.{slot-at}
 use Rattle.events.specs.SoundLaws.{Fit}
-use Rattle.events.specs.HoldLaws.{laid-as, view-count, view-opened, count-more, room-more}
+use Rattle.events.specs.HoldLaws.{front, laid-as, view-count, view-opened, count-more, room-more}
 use Rattle.event_opening.specs.Parts.{opening, begin-left}
 
 -- an open place more
@@ -25,20 +23,14 @@ one-opened opens n p h =
     rw (sets-append opens 0 (take n opens) (p ∷ []), sets-take opens n (omega arith), l)
 
 module _ (s : State) (k : Fit s) where
-  abbrev t : Stream
-  t = s .stream
-
-  abbrev front : Slot
-  front = s .stream .front
-
   begin-held : (kind : ℕ) → s .stream .opened < s .stream .places → reply done (begin-left kind s) ≡ laid s (reply done (begun kind (view s)))
   unfolding view
   begin-held kind p =
-      let y = opening kind t in
-      laid-as s done (begun kind (view s)) front (t .count + 1) (t .opened + 1) (write (s .room) (slot-at t (t .count)) y)
-      (set (s .opens) (t .opened) (t .count)) refl (count-more s k y)
+      let y = opening kind (s .stream) in
+      laid-as s done (begun kind (view s)) (front s) (s .stream .count + 1) (s .stream .opened + 1) (write (s .room) (slot-at (s .stream) (s .stream .count)) y)
+      (set (s .opens) (s .stream .opened) (s .stream .count)) refl (count-more s k y)
       (omega (arith, length-append (view s .opens) (length (view s .events) ∷ []), view-opened s k)) (room-more s k y)
-      (rw (view-count s k) (one-opened (s .opens) (t .opened) (t .count) (omega (arith, k .places-same))))
+      (rw (view-count s k) (one-opened (s .opens) (s .stream .opened) (s .stream .count) (omega (arith, k .places-same))))
 
   module _ (kind : ℕ) where
     pub too-deep : s .stream .places ≤ s .stream .opened → reply (refused 11) s ≡ answered (begin kind) s

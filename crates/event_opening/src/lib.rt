@@ -15,7 +15,7 @@ use tokens::Offset;
 pub fn begin(stream: Stream, room: &mut [u32], opens: &mut [usize], kind: u16) -> DoneGiven
     ensures { λ r. ⌜ done-reply r (now (room .exit)) (now (opens .exit)) ≡ step (begin-call kind) (state stream (now (room .entry)) (now (opens .entry))) ⌝ }
 {
-    if events::is_sound(stream, &*room, &*opens) {
+    if event_tests::is_sound(stream, &*room, &*opens) {
         open_node(stream, room, opens, kind)
     } else {
         events::refused(stream, Refusal::NotAsOpened)
@@ -44,6 +44,6 @@ fn open_node(stream: Stream, room: &mut [u32], opens: &mut [usize], kind: u16) -
     };
     let place = stream.opened;
     opens[place] = stream.count;
-    events::put(stream, room, stream.count, event);
+    event_ring::put(room, stream.slots, stream.front, stream.count, event);
     events::counted(stream, stream.count + 1, place + 1, last)
 }

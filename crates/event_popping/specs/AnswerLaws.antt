@@ -13,11 +13,10 @@ use Rattle.event_record.specs.declared.Event.{Event}
 use Rattle.event_record.specs.Record.{pop, none, event, refused, reply, last-token, holding, passed, first-popped}
 use Rattle.event_room.specs.Room.{slots-in, slot-in, read, listed}
 use Rattle.event_room.specs.RingLaws.{slot-first, length-listed, listed-turned, written-listed}
-use Rattle.events.specs.declared.Stream.{Stream}
 use Rattle.events.specs.Stream.{State, view, laid, answered}
 use Rattle.events.specs.Parts.{slot-at}
 use Rattle.events.specs.SoundLaws.{Fit}
-use Rattle.events.specs.HoldLaws.{laid-as, unstored, opened-inside, front-slot, count-inside, view-opened}
+use Rattle.events.specs.HoldLaws.{front, laid-as, unstored, opened-inside, front-slot, count-inside, view-opened}
 use Rattle.event_popping.specs.Parts.{gone-after, first-of, pop-left}
 
 -- the first event, and those behind it
@@ -27,37 +26,31 @@ listed-first room f i zero h = absurd (omega arith)
 listed-first room f i (suc n) h = let e : suc n - 1 ≡ n = omega arith in rw e
 
 module _ (s : State) (k : Fit s) where
-  abbrev t : Stream
-  t = s .stream
-
-  abbrev front : Slot
-  front = s .stream .front
-
   -- the first event gone, if there is one
-  first-event : 0 < t .count → view s .events ≡ first-of s ∷ listed (s .room) front 1 (t .count - 1)
+  first-event : 0 < s .stream .count → view s .events ≡ first-of s ∷ listed (s .room) (front s) 1 (s .stream .count - 1)
   unfolding view
   first-event h =
-      listed-first (s .room) front 0 (t .count) h
-      ∙ ap (λ (u : Slot). read (s .room) u ∷ listed (s .room) front 1 (t .count - 1)) (slot-first (slots-in (length (s .room))) front (front-slot s k h))
+      listed-first (s .room) (front s) 0 (s .stream .count) h
+      ∙ ap (λ (u : Slot). read (s .room) u ∷ listed (s .room) (front s) 1 (s .stream .count - 1)) (slot-first (slots-in (length (s .room))) (front s) (front-slot s k h))
 
   pop-held : 0 < s .stream .count → reply (event (first-of s)) (pop-left s) ≡ laid s (first-popped (view s .events) (view s))
   unfolding view last-token
   pop-held h =
       let y = first-of s in
-      let n = t .count - 1 in
-      let es = listed (s .room) front 1 n in
+      let n = s .stream .count - 1 in
+      let es = listed (s .room) (front s) 1 n in
       let l : 0 + 1 + n ≤ slots-in (length (s .room)) = omega (arith, (count-inside s k)) in
-      let turned : listed (s .room) (slot-at t 1) 0 n ≡ es = rw (k .slots-same) (listed-turned (s .room) front 0 n (front-slot s k h) l) in
-      laid-as s (event y) (holding es (view s .opens) (passed (gone-after y (t .gone)) (view s))) (slot-at t 1) n (t .opened) (s .room) (s .opens)
-      refl (sym (length-listed (s .room) front 1 n)) (sym (view-opened s k)) (rw (← turned) (sym (written-listed (s .room) (slot-at t 1) 0 n)))
-      (sym (sets-take (s .opens) (t .opened) (opened-inside s k)))
+      let turned : listed (s .room) (slot-at (s .stream) 1) 0 n ≡ es = rw (k .slots-same) (listed-turned (s .room) (front s) 0 n (front-slot s k h) l) in
+      laid-as s (event y) (holding es (view s .opens) (passed (gone-after y (s .stream .gone)) (view s))) (slot-at (s .stream) 1) n (s .stream .opened) (s .room) (s .opens)
+      refl (sym (length-listed (s .room) (front s) 1 n)) (sym (view-opened s k)) (rw (← turned) (sym (written-listed (s .room) (slot-at (s .stream) 1) 0 n)))
+      (sym (sets-take (s .opens) (s .stream .opened) (opened-inside s k)))
       ∙ ap (λ (l : List Event). laid s (first-popped l (view s))) (sym (first-event h))
 
   none-held : s .stream .count ≡ 0 → reply none s ≡ laid s (first-popped (view s .events) (view s))
   unfolding view
   none-held e =
-      unstored s none (view s) (t .count) (t .opened) refl refl refl (opened-inside s k)
-      ∙ ap (λ (n : ℕ). laid s (first-popped (listed (s .room) front 0 n) (view s))) (sym e)
+      unstored s none (view s) (s .stream .count) (s .stream .opened) refl refl refl (opened-inside s k)
+      ∙ ap (λ (n : ℕ). laid s (first-popped (listed (s .room) (front s) 0 n) (view s))) (sym e)
 
   unsettled : (leb 1 (view s .bookmarks) || leb 1 (length (view s .opens))) ≡ (leb 1 (s .stream .bookmarks) || leb 1 (s .stream .opened))
   unfolding view

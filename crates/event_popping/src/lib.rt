@@ -18,7 +18,7 @@ use refusals::Refusal;
 pub fn pop(stream: Stream, room: &[u32], opens: &[usize]) -> EventGiven
     ensures { λ r. ⌜ event-reply r (now (room .entry)) (now (opens .entry)) ≡ step pop-call (state stream (now (room .entry)) (now (opens .entry))) ⌝ }
 {
-    if events::is_sound(stream, room, opens) {
+    if event_tests::is_sound(stream, room, opens) {
         pop_first(stream, room)
     } else {
         not_popped(stream, Refusal::NotAsOpened)
@@ -52,7 +52,7 @@ fn passed(stream: Stream, event: Event) -> Stream
     ensures { λ r. ⌜ r ≡ passing (slot-at stream 1) (gone-after event (stream .gone)) stream ⌝ }
 {
     let front = stream.front;
-    let next = event_room::slot_of(stream.slots, front, 1);
+    let next = event_ring::slot_of(stream.slots, front, 1);
     let mut left = stream;
     left.front = next;
     left.count = stream.count - 1;

@@ -5,17 +5,15 @@ use mathlib.Core.Path.{_≡_, refl, sym}
 use mathlib.Core.Bool.{Bool, true, false}
 use native.Mathlib.Omega.{arith}
 use borrow.Author.Tests.{lt-ltb, le-ltb}
-use Rattle.rooms.specs.declared.Slot.{Slot}
 use Rattle.rooms.specs.Stores.{sets-take}
 use Rattle.event_record.specs.declared.Span.{Span}
 use Rattle.event_record.specs.declared.Event.{Event}
 use Rattle.event_record.specs.Record.{push-token, push-error, done, refused, Reply, reply, event-of, token-tag, error-tag, pushed, lasting, spare, no-span}
 use Rattle.event_room.specs.Room.{write}
-use Rattle.events.specs.declared.Stream.{Stream}
 use Rattle.events.specs.Stream.{State, state, view, laid, sound, answered, step}
 use Rattle.events.specs.Parts.{counting, slot-at}
 use Rattle.events.specs.SoundLaws.{Fit, when-sound}
-use Rattle.events.specs.HoldLaws.{laid-as, opened-inside, view-count, view-opened, count-more, room-more}
+use Rattle.events.specs.HoldLaws.{front, laid-as, opened-inside, view-count, view-opened, count-more, room-more}
 use Rattle.event_pushing.specs.Parts.{pushes}
 
 -- what is left: an event more
@@ -36,17 +34,11 @@ module _ (s : State) where
   error-pushed m x p e h = when-sound s (push-error m x) p e h
 
 module _ (s : State) (k : Fit s) where
-  abbrev t : Stream
-  t = s .stream
-
-  abbrev front : Slot
-  front = s .stream .front
-
   push-held : (y : Event) (x : Span) → reply done (push-left y x s) ≡ laid s (reply done (pushed y (lasting x (view s))))
   unfolding view
   push-held y x =
-      laid-as s done (pushed y (lasting x (view s))) front (t .count + 1) (t .opened) (write (s .room) (slot-at t (t .count)) y) (s .opens)
-      refl (count-more s k y) (sym (view-opened s k)) (room-more s k y) (sym (sets-take (s .opens) (t .opened) (opened-inside s k)))
+      laid-as s done (pushed y (lasting x (view s))) (front s) (s .stream .count + 1) (s .stream .opened) (write (s .room) (slot-at (s .stream) (s .stream .count)) y) (s .opens)
+      refl (count-more s k y) (sym (view-opened s k)) (room-more s k y) (sym (sets-take (s .opens) (s .stream .opened) (opened-inside s k)))
 
   module _ (y : Event) (x : Span) where
     pub no-such-span : no-span (y .span) ≡ true → reply (refused 7) s ≡ pushes y x s

@@ -25,7 +25,7 @@ pub fn push_token(
 ) -> DoneGiven
     ensures { λ r. ⌜ done-reply r (now (room .exit)) (now (opens .entry)) ≡ step (push-token kind span) (state stream (now (room .entry)) (now (opens .entry))) ⌝ }
 {
-    if events::is_sound(stream, &*room, opens) {
+    if event_tests::is_sound(stream, &*room, opens) {
         let event = Event {
             tag: TOKEN,
             kind: kind as u32,
@@ -47,7 +47,7 @@ pub fn push_error(
 ) -> DoneGiven
     ensures { λ r. ⌜ done-reply r (now (room .exit)) (now (opens .entry)) ≡ step (push-error message span) (state stream (now (room .entry)) (now (opens .entry))) ⌝ }
 {
-    if events::is_sound(stream, &*room, opens) {
+    if event_tests::is_sound(stream, &*room, opens) {
         let event = Event {
             tag: ERROR,
             kind: message as u32,
@@ -70,7 +70,7 @@ fn push(stream: Stream, room: &mut [u32], event: Event, last: Span) -> DoneGiven
     if events::spare(stream) < 1 {
         events::refused(stream, Refusal::EventsFull)
     } else {
-        events::put(stream, room, stream.count, event);
+        event_ring::put(room, stream.slots, stream.front, stream.count, event);
         events::counted(stream, stream.count + 1, stream.opened, last)
     }
 }

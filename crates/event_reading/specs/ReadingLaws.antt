@@ -37,10 +37,10 @@ first-decides : (n : ℕ) (y : Event) (ys : List Event) {b : Bool} → unmatched
 unfolding balanced
 first-decides n y ys u = ap (λ b. not b && balanced (depth n y) ys) u
 
--- y is read in the slot s: it is the event at position i of a room with n slots
-module _ (room : List ℕ) (f : Slot) (i : ℕ) {n : ℕ} (e : n ≡ slots-in (length room)) {s : Slot} (q : s ≡ slot-of n f i) {y : Event} (r : y ≡ read room s) where
+-- y is read in its slot: it is the event at position i of a room with n slots
+module _ (room : List ℕ) (f : Slot) (i : ℕ) {n : ℕ} (e : n ≡ slots-in (length room)) {y : Event} (r : y ≡ read room (slot-of n f i)) where
   here : y ≡ read room (slot-in room f i)
-  here = r ∙ ap (read room) q ∙ ap (λ m. read room (slot-of m f i)) e
+  here = r ∙ ap (λ m. read room (slot-of m f i)) e
 
   -- the events from there on, up to a count, d nodes being open before them
   module _ (d count : ℕ) (h : i < count) where

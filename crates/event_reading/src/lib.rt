@@ -20,7 +20,7 @@ pub fn is_balanced(room: &[u32], front: Slot, from: usize, count: usize) -> bool
     let mut depth: usize = 0;
     let mut i = from;
     while i < count {
-        let event = event_room::read(room, event_room::slot_of(slots, front, i));
+        let event = event_ring::event_at(room, slots, front, i);
         if is_unmatched(depth, event) {
             return false;
         }
@@ -38,7 +38,7 @@ pub fn last_token(room: &[u32], front: Slot, count: usize, gone: Span) -> Span
     let mut left = count;
     while 0 < left {
         left -= 1;
-        let event = event_room::read(room, event_room::slot_of(slots, front, left));
+        let event = event_ring::event_at(room, slots, front, left);
         if event.tag == TOKEN {
             return event.span;
         }

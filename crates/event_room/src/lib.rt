@@ -1,8 +1,8 @@
-// The lent room of the events: a ring of slots, each of four numbers (tag, kind or message, start, end).
+// The lent room of the events: slots of four numbers each (tag, kind or message, start, end).
 ghost use mathlib.Core.Path.{_≡_};
-ghost use Prim.Native.Nat.{_+_, _-_, _*_, _≤_};
+ghost use Prim.Native.Nat.{_+_, _*_, _≤_};
 ghost use lib.ListN.{length};
-ghost use Rattle.event_room.specs.Room.{width, slots-in, slot-of, write-at, read-at, write, read};
+ghost use Rattle.event_room.specs.Room.{width, slots-in, write-at, read-at, write, read};
 use event_record::Event;
 use event_record::Span;
 use rooms::Slot;
@@ -16,25 +16,6 @@ pub fn slots(len: usize) -> usize
     ensures { λ r. ⌜ r ≡ slots-in len ⌝ }
 {
     len / WIDTH
-}
-
-// The slot of the event at a position in a ring of so many slots: from the front on, and round the end.
-pub fn slot_of(slots: usize, front: Slot, i: usize) -> Slot
-    ensures { λ r. ⌜ r ≡ slot-of slots front i ⌝ }
-{
-    let ahead = slots_ahead(slots, front);
-    if i < ahead {
-        Slot(front.0 + i)
-    } else {
-        Slot(i - ahead)
-    }
-}
-
-// How many slots of a ring lie from its front on.
-fn slots_ahead(slots: usize, front: Slot) -> usize
-    ensures { λ r. ⌜ r ≡ slots - front .0 ⌝ }
-{
-    if front.0 < slots { slots - front.0 } else { 0 }
 }
 
 // Writes an event into a slot. A room without that slot stays as it is.

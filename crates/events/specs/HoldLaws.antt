@@ -39,13 +39,17 @@ pub laid-as : (s : State) (a : Answer) (r : Record) (f : Slot) (n o : ℕ) (room
 unfolding laid
 laid-as s a r f n o room opens p q u v w = rw (v, w, q, u, p)
 
+-- the slot of the first event
+abbrev pub front : State → Slot
+front s = s .stream .front
+
 -- nothing is to be stored where the list has the first of the events and open places that stand, or all
-pub unstored : (s : State) (a : Answer) (r : Record) (n o : ℕ) → front-after (s .stream) a ≡ s .stream .front
-    → r .events ≡ listed (s .room) (s .stream .front) 0 n → r .opens ≡ take o (s .opens) → o ≤ length (s .opens)
-    → reply a (state (recorded r (s .stream .front) n o) (s .room) (s .opens)) ≡ laid s (reply a r)
+pub unstored : (s : State) (a : Answer) (r : Record) (n o : ℕ) → front-after (s .stream) a ≡ front s
+    → r .events ≡ listed (s .room) (front s) 0 n → r .opens ≡ take o (s .opens) → o ≤ length (s .opens)
+    → reply a (state (recorded r (front s) n o) (s .room) (s .opens)) ≡ laid s (reply a r)
 unstored s a r n o f p q h =
-    laid-as s a r (s .stream .front) n o (s .room) (s .opens) (sym f) (rw p (sym (length-listed (s .room) (s .stream .front) 0 n)))
-    (rw q (sym (length-take-le o (s .opens) h))) (rw p (sym (written-listed (s .room) (s .stream .front) 0 n))) (rw q (sym (sets-take (s .opens) o h)))
+    laid-as s a r (front s) n o (s .room) (s .opens) (sym f) (rw p (sym (length-listed (s .room) (front s) 0 n)))
+    (rw q (sym (length-take-le o (s .opens) h))) (rw p (sym (written-listed (s .room) (front s) 0 n))) (rw q (sym (sets-take (s .opens) o h)))
 
 -- an event more is one write more, in the slot behind
 pub one-written : (room after : List ℕ) (f : Slot) (e n : ℕ) (xs : List Event) (y : Event) → e ≡ slots-in (length after) → length xs ≡ n
@@ -56,12 +60,6 @@ one-written room after f e n xs y p q w =
     rw (written-append room f 0 xs (y ∷ []), ← w, l, p)
 
 module _ (s : State) (k : Fit s) where
-  abbrev t : Stream
-  t = s .stream
-
-  abbrev front : Slot
-  front = s .stream .front
-
   pub opened-inside : s .stream .opened ≤ length (s .opens)
   opened-inside = omega (arith, k .nodes, k .places-same)
 
@@ -75,11 +73,11 @@ module _ (s : State) (k : Fit s) where
   -- what the list has is what the record counts
   pub view-count : length (view s .events) ≡ s .stream .count
   unfolding view
-  view-count = length-listed (s .room) front 0 (t .count)
+  view-count = length-listed (s .room) (front s) 0 (s .stream .count)
 
   pub view-opened : length (view s .opens) ≡ s .stream .opened
   unfolding view
-  view-opened = length-take-le (t .opened) (s .opens) opened-inside
+  view-opened = length-take-le (s .stream .opened) (s .opens) opened-inside
 
   -- an event more
   pub count-more : (y : Event) → s .stream .count + 1 ≡ length (view s .events ++ (y ∷ []))
@@ -88,5 +86,5 @@ module _ (s : State) (k : Fit s) where
   pub room-more : (y : Event) → write (s .room) (slot-at (s .stream) (s .stream .count)) y ≡ written (s .room) (s .stream .front) 0 (view s .events ++ (y ∷ []))
   unfolding view
   room-more y =
-      one-written (s .room) (s .room) front (t .slots) (t .count) (view s .events) y (k .slots-same) view-count
-      (sym (written-listed (s .room) front 0 (t .count)))
+      one-written (s .room) (s .room) (front s) (s .stream .slots) (s .stream .count) (view s .events) y (k .slots-same) view-count
+      (sym (written-listed (s .room) (front s) 0 (s .stream .count)))

@@ -1,17 +1,16 @@
--- The tests of refusal 24 as facts, and back; and in the parts in which the code asks them.
+-- The tests of refusal 24 as facts, and back; and that 24 comes before all.
 -- Assumes nothing.
-use Prim.Native.Nat.{ℕ, _+_, _-_, _≤_, _<_}
+use Prim.Native.Nat.{ℕ, _+_, _≤_, _<_}
 use mathlib.Core.Path.{_≡_, sym, _∙_}
-use mathlib.Core.Bool.{Bool, true, false, _&&_, _||_, and-true, and-assoc}
+use mathlib.Core.Bool.{Bool, true, false, _||_}
 use native.Mathlib.Omega.{arith}
 use lib.ListN.{length}
-use lib.Dec.{eqb, leb, ltb}
-use borrow.Author.Tests.{ltb-true, lt-ltb, leb-true, leb-false, le-leb, lt-leb, eqb-true, eqb-false, eq-eqb, ne-eqb}
+use lib.Dec.{eqb, ltb}
+use borrow.Author.Tests.{ltb-true, lt-ltb, leb-true, le-leb, eqb-true, eqb-false, eq-eqb, ne-eqb}
 use Rattle.patterns.specs.Bools.{and-both, and-first, and-second, by-test}
 use Rattle.patterns.specs.Lists.{each-right}
 use Rattle.event_record.specs.Record.{Call, refused, Reply, reply, begin-tag}
 use Rattle.event_room.specs.Room.{slots-in}
-use Rattle.events.specs.declared.Stream.{Stream}
 use Rattle.events.specs.Stream.{State, inner-place, begins, tests, sound, answered, step}
 use Rattle.events.specs.Parts.{event-at}
 
@@ -25,28 +24,9 @@ pub record Fit (s : State) : Type 0 where
   pub inner-inside : 0 < s .stream .opened → inner-place s < s .stream .count
   pub inner-begins : 0 < s .stream .opened → event-at (s .stream) (s .room) (inner-place s) .tag ≡ begin-tag
 
--- the tests in parts: of the record alone, and of the last open place
-abbrev pub within : Stream → Bool
-within t = (eqb (t .slots) 0 || ltb (t .front .0) (t .slots)) && leb (t .count + t .opened) (t .slots) && leb (t .opened) (t .places)
-
+-- the test of the last open place
 abbrev pub begun : State → Bool
 begun s = eqb (s .stream .opened) 0 || begins s (inner-place s)
-
--- where the record and the lengths are right, the open nodes have their places
-pub places-enough : (t : Stream) (e d : ℕ) {w : Bool} → w ≡ within t → (eqb (t .slots) e && eqb (t .places) d && w) ≡ true
-    → t .opened ≤ d
-places-enough t e d {w} p h =
-    let lengths = eqb (t .slots) e && eqb (t .places) d in
-    let front = (eqb (t .slots) 0 || ltb (t .front .0) (t .slots)) && leb (t .count + t .opened) (t .slots) in
-    let same : t .places ≡ d = eqb-true _ _ (and-second (eqb (t .slots) e) _ (and-first lengths w h)) in
-    let nodes : t .opened ≤ t .places = leb-true _ _ (and-second front _ (sym p ∙ and-second lengths w h)) in
-    omega arith
-
--- a bound on a sum, asked without the sum
-pub moved-leb : (n o e : ℕ) → o ≤ e → leb n (e - o) ≡ leb (n + o) e
-moved-leb n o e h =
-    by-test (leb (n + o) e) (λ t. rw t (le-leb n (e - o) (omega (arith, leb-true (n + o) e t))))
-    (λ t. rw t (lt-leb n (e - o) (omega (arith, leb-false (n + o) e t))))
 
 -- a test that is asked only where a number is not 0
 or-some : (n : ℕ) (b : Bool) → (eqb n 0 || b) ≡ true → 0 < n → b ≡ true
@@ -78,12 +58,6 @@ module _ (s : State) where
       some-or _ _ (λ l. lt-ltb _ _ (k .front-inside l)) in
       let inner : begun s ≡ true = some-or _ _ (λ l. and-both _ _ (lt-ltb _ _ (k .inner-inside l)) (eq-eqb _ _ (k .inner-begins l))) in
       rw (eq-eqb _ _ (k .slots-same), eq-eqb _ _ (k .places-same), front, le-leb _ _ (k .within), le-leb _ _ (k .nodes), inner)
-
-  -- the tests in parts, as they are asked
-  pub in-parts : {e : ℕ} {w b : Bool} → e ≡ slots-in (length (s .room)) → w ≡ within (s .stream)
-      → (eqb (s .stream .slots) e && eqb (s .stream .places) (length (s .opens)) && w) ≡ b → (b && begun s) ≡ sound s
-  unfolding sound
-  in-parts p q r = rw (← r, p, q) (simp (and-assoc, and-true))
 
   -- refusal 24 comes before all
   pub not-sound : (c : Call) {b : Bool} → b ≡ sound s → b ≡ false → reply (refused 24) s ≡ step c s

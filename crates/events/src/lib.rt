@@ -1,13 +1,11 @@
 // The event stream: the nodes, tokens and errors that a parser finds, in order, in a ring of slots that is lent. Its record, the answers, and
-// the steps that more than one call is made of; the calls stand in the crates event_pushing, event_opening, event_closing, event_marks and event_popping.
-ghost use Prim.Native.Nat.{_+_, _-_, _≤_};
+// the steps that more than one call is made of; each group of calls has a crate of its own.
+ghost use Prim.Native.Nat.{_+_, _-_};
 ghost use mathlib.Core.Path.{_≡_};
 ghost use lib.ListN.{length};
-ghost use Rattle.event_room.specs.Room.{slots-in, write};
-ghost use Rattle.events.specs.Stream.{state, fresh, sound};
-ghost use Rattle.events.specs.Parts.{counting, slot-at, event-at, refused-with, done-with};
-ghost use Rattle.events.specs.SoundLaws.{within, begun};
-use event_record::BEGIN;
+ghost use Rattle.event_room.specs.Room.{slots-in};
+ghost use Rattle.events.specs.Stream.{fresh};
+ghost use Rattle.events.specs.Parts.{counting, refused-with, done-with};
 use event_record::Event;
 use event_record::Position;
 use event_record::Span;
@@ -112,24 +110,6 @@ pub fn counted(stream: Stream, count: usize, opened: usize, last: Span) -> DoneG
     }
 }
 
-// The event at a position.
-pub fn event_at(stream: Stream, room: &[u32], i: usize) -> Event
-    ensures { λ r. ⌜ r ≡ event-at stream (now (room .entry)) i ⌝ }
-{
-    event_room::read(room, event_room::slot_of(stream.slots, stream.front, i))
-}
-
-// Writes the event at a position.
-pub fn put(stream: Stream, room: &mut [u32], i: usize, event: Event)
-    ensures { λ r. ⌜ now (room .exit) ≡ write (now (room .entry)) (slot-at stream i) event ⌝ }
-{
-    event_room::write(
-        room,
-        event_room::slot_of(stream.slots, stream.front, i),
-        event,
-    );
-}
-
 // Slots beyond the events and beyond those that open nodes reserve, one each; 0 where there are not so many slots.
 pub fn spare(stream: Stream) -> usize
     ensures { λ r. ⌜ r ≡ stream .slots - (stream .count + stream .opened) ⌝ }
@@ -143,40 +123,4 @@ pub fn spare(stream: Stream) -> usize
     } else {
         left - stream.count
     }
-}
-
-// Whether the stream is one over these rooms. Here and below `&` and `|` ask both sides: neither can fail.
-pub fn is_sound(stream: Stream, room: &[u32], opens: &[usize]) -> bool
-    ensures { λ r. ⌜ r ≡ sound (state stream (now (room .entry)) (now (opens .entry))) ⌝ }
-{
-    let slots = event_room::slots(room.len());
-    if (stream.slots == slots) & (stream.places == opens.len()) & is_within(stream) {
-        is_begun(stream, room, opens)
-    } else {
-        false
-    }
-}
-
-// Whether the front is one of the slots, and the events and the open nodes are not too many.
-fn is_within(stream: Stream) -> bool
-    ensures { λ r. ⌜ r ≡ within stream ⌝ }
-{
-    if stream.slots < stream.opened {
-        return false;
-    }
-    let inside = (stream.slots == 0) | (stream.front.0 < stream.slots);
-    inside & (stream.count <= stream.slots - stream.opened) & (stream.opened <= stream.places)
-}
-
-// Whether the last open place is that of a Begin.
-fn is_begun(stream: Stream, room: &[u32], opens: &[usize]) -> bool
-    requires { ⌜ stream .opened ≤ length (now opens) ⌝ }
-    ensures { λ r. ⌜ r ≡ begun (state stream (now (room .entry)) (now (opens .entry))) ⌝ }
-{
-    if stream.opened == 0 {
-        return true;
-    }
-    let place = stream.opened - 1;
-    let inner = opens[place];
-    (inner < stream.count) & (event_at(stream, room, inner).tag == BEGIN)
 }

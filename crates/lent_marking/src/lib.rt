@@ -25,7 +25,7 @@ pub fn truncate(stream: &mut Stream, room: &[u32], opens: &[usize], mark: Positi
     ensures { λ r. ⌜ reply (done-told r) (state (now (stream .exit)) (now (room .entry)) (now (opens .entry))) ≡ step (truncate-call mark) (state (now (stream .entry)) (now (room .entry)) (now (opens .entry))) ⌝ }
 {
     let before = *stream;
-    let given = event_marks::truncate(before, room, opens, mark);
+    let given = event_truncating::truncate(before, room, opens, mark);
     *stream = given.stream;
     given.answer
 }

@@ -4,7 +4,8 @@ use mathlib.Core.Path.{refl}
 use borrow.Author.Needs.{needs}
 use native.Mathlib.Omega.{arith}
 use Rattle.event_record.specs.Record.{remove-bookmark, grounds}
-use Rattle.event_marks.specs.AnswerLaws.{nothing-live, too-late, mark-removed}
+use Rattle.events.specs.MarkLaws.{nothing-live, too-late}
+use Rattle.event_marks.specs.AnswerLaws.{mark-removed}
 use Rattle.event_marks.proofs.unmark.Statement.{statement}
 use Rattle.event_marks.proofs.unmark.Tie as tie
 

@@ -27,11 +27,8 @@ loop-holds c =
     let a = c .before .before .args in
     (search needs, c .slots .ensures, balanced-start (a .room .now) (a .front) 0 (a .from) (a .count))
 
-slot-of-requires : tie.Need-slot-of-requires Inv-loop μ-loop
-slot-of-requires c κs = search needs
-
-read-requires : tie.Need-read-requires Inv-loop μ-loop
-read-requires c κs = search needs
+event-at-requires : tie.Need-event-at-requires Inv-loop μ-loop
+event-at-requires c κs = search needs
 
 is-unmatched-requires : tie.Need-is-unmatched-requires Inv-loop μ-loop
 is-unmatched-requires c κs = search needs
@@ -39,9 +36,9 @@ is-unmatched-requires c κs = search needs
 returns : tie.Need-returns Inv-loop μ-loop
 returns c =
     let r = c .before .before in
-    let l = r .before .before .before in
+    let l = r .before .before in
     let a = l .before .before .before .args in
-    balanced-here (a .room .now) (a .front) (l .loop .i) (l .loop .inv .1) (r .before .slot-of .ensures) (r .read .ensures) (l .loop .depth) (a .count)
+    balanced-here (a .room .now) (a .front) (l .loop .i) (l .loop .inv .1) (r .event-at .ensures) (l .loop .depth) (a .count)
     (omega arith) (sym (c .before .is-unmatched .ensures) ∙ c .if1 .taken)
     ∙ l .loop .inv .2
 
@@ -58,13 +55,13 @@ loop-again : tie.Need-loop-again Inv-loop μ-loop
 loop-again c =
     let u = c .before .before in
     let r = u .before in
-    let l = r .before .before .before in
+    let l = r .before .before in
     let a = l .before .before .before .args in
-    let y = r .read .result in (
+    let y = r .event-at .result in (
       omega (arith, c .depth-behind .ensures, one-more (l .loop .depth) y),
       l .loop .inv .1,
       ap (λ d. balanced d (listed (a .room .now) (a .front) (l .loop .i + 1) (a .count - (l .loop .i + 1)))) (c .depth-behind .ensures)
-          ∙ balanced-here (a .room .now) (a .front) (l .loop .i) (l .loop .inv .1) (r .before .slot-of .ensures) (r .read .ensures) (l .loop .depth) (a .count)
+          ∙ balanced-here (a .room .now) (a .front) (l .loop .i) (l .loop .inv .1) (r .event-at .ensures) (l .loop .depth) (a .count)
           (omega arith) (sym (u .is-unmatched .ensures) ∙ c .before .if1 .left)
           ∙ l .loop .inv .2,
     )
@@ -83,8 +80,7 @@ is-balanced-spec =
     μ-loop
     slots-requires
     loop-holds
-    slot-of-requires
-    read-requires
+    event-at-requires
     is-unmatched-requires
     returns
     depth-behind-requires

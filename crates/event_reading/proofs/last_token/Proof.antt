@@ -27,18 +27,15 @@ loop-holds c = (c .slots .ensures, refl)
 sub-left : tie.Need-sub-left Inv-loop μ-loop
 sub-left c = search needs
 
-slot-of-requires : tie.Need-slot-of-requires Inv-loop μ-loop
-slot-of-requires c κs = search needs
-
-read-requires : tie.Need-read-requires Inv-loop μ-loop
-read-requires c κs = search needs
+event-at-requires : tie.Need-event-at-requires Inv-loop μ-loop
+event-at-requires c κs = search needs
 
 returns : tie.Need-returns Inv-loop μ-loop
 returns c =
     let r = c .before .before .before in
-    let l = r .before .before .before in
+    let l = r .before .before in
     let a = l .before .before .before .args in
-    token-here (a .room .now) (a .front) (l .loop .left - 1) (l .loop .inv .0) (r .before .slot-of .ensures) (r .read .ensures) (a .gone)
+    token-here (a .room .now) (a .front) (l .loop .left - 1) (l .loop .inv .0) (r .event-at .ensures) (a .gone)
     (omega arith) (c .before .if1 .taken)
     ∙ l .loop .inv .1
 
@@ -48,10 +45,10 @@ loop-less c = search needs
 loop-again : tie.Need-loop-again Inv-loop μ-loop
 loop-again c =
     let r = c .before .before in
-    let l = r .before .before .before in
+    let l = r .before .before in
     let a = l .before .before .before .args in (
       l .loop .inv .0,
-      token-before (a .room .now) (a .front) (l .loop .left - 1) (l .loop .inv .0) (r .before .slot-of .ensures) (r .read .ensures) (a .gone)
+      token-before (a .room .now) (a .front) (l .loop .left - 1) (l .loop .inv .0) (r .event-at .ensures) (a .gone)
           (omega arith) (c .if1 .left)
           ∙ l .loop .inv .1,
     )
@@ -71,8 +68,7 @@ last-token-spec =
     slots-requires
     loop-holds
     sub-left
-    slot-of-requires
-    read-requires
+    event-at-requires
     returns
     loop-less
     loop-again

@@ -6,9 +6,9 @@ use contract.Running.{givenOf, tables, tablesOf}
 use denote.Triple.Spec.{tripleOf}
 use denote.Triple.Table.{entered, cited}
 use Rattle.event_record.specs.Record.{truncate as call}
-use Rattle.event_marks.proofs.truncate as core
-use Rattle.event_marks.proofs.truncate.Symbol as core-def
-use Rattle.event_marks.proofs.truncate.Met as core-thm
+use Rattle.event_truncating.proofs.truncate as core
+use Rattle.event_truncating.proofs.truncate.Symbol as core-def
+use Rattle.event_truncating.proofs.truncate.Met as core-thm
 use Rattle.lent_calls.specs.Answers.{dones, stream-val}
 use Rattle.lent_calls.specs.Lifted.{spelt, meets}
 use Rattle.lent_calls.specs.Shapes.{at-mark, marking}
@@ -20,7 +20,7 @@ use Rattle.lent_marking.proofs.truncate.Code as code
 pub truncate-spec : {M : Type 1} → stated.statement M
 unfolding code.routine tablesOf
 truncate-spec 𝓤 H 𝓜 𝓖 𝓡 =
-    let covered = cited 𝓤 H (tripleOf 𝓤 H (𝓖 .A) core.signature (core.spec 𝓤 H (𝓖 .A) (𝓜 .mem) (𝓡 .run))) 𝓜 𝓡 code.env core-def.name core-def.routine code.calls-event-marks·truncate (core-thm.met 𝓤 H 𝓜 𝓖 𝓡) in
+    let covered = cited 𝓤 H (tripleOf 𝓤 H (𝓖 .A) core.signature (core.spec 𝓤 H (𝓖 .A) (𝓜 .mem) (𝓡 .run))) 𝓜 𝓡 code.env core-def.name core-def.routine code.calls-event-truncating·truncate (core-thm.met 𝓤 H 𝓜 𝓖 𝓡) in
     entered 𝓤 H (tripleOf 𝓤 H (𝓖 .A) thin.signature (thin.spec 𝓤 H (𝓖 .A) (𝓜 .mem) (𝓡 .run)))
     (tables 𝓤 H 𝓜 𝓡 code.env .C) (tables 𝓤 H 𝓜 𝓡 code.env .Λ) key.name code.function (code.unfolded 𝓤 H 𝓜 𝓡)
     (meets dones at-mark 𝓤 H (𝓖 .A) (givenOf 𝓤 H 𝓜 𝓖) core-def.name (marking call) (tablesOf 𝓤 H 𝓜 (tables 𝓤 H 𝓜 𝓡 code.env)) (thin.clauses 𝓤 H (𝓖 .A) (𝓜 .mem) (𝓡 .run))
