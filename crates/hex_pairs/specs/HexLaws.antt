@@ -9,13 +9,10 @@ use lib.ListN.{length, getD, drop, length-drop}
 use lib.Seq.{drop-cons}
 use lib.Dec.{leb}
 use borrow.Author.Tests.{le-leb, lt-leb, leb-true, leb-false}
-use Rattle.patterns.specs.Bools.{and-first, by-test}
+use Rattle.patterns.specs.Bools.{by-test}
 use Rattle.patterns.specs.Utf8.{between}
 use Rattle.tokens.specs.Tokens.{dec}
 use Rattle.hex_pairs.specs.Hex.{hex-value, byte-of, pair}
-
-pub digit-least : (b : ℕ) → dec b ≡ true → 48 ≤ b
-digit-least b e = leb-true 48 b (and-first (leb 48 b) (leb b 57) e)
 
 -- the values of digits, by the tests of the definitions
 module _ (b : ℕ) where

@@ -1,13 +1,13 @@
--- Examples that pin the definitions: a call with numbers, one with none, an empty line, the greatest number, ends of lines, bytes that
--- stand at a place or do not, bytes in hexadecimal. Each is computed by the definitions themselves. Assumes nothing.
+-- Examples that pin the definitions: a call with numbers, one with none, an empty line, the greatest number, ends of lines, bytes in
+-- hexadecimal. Each is computed by the definitions themselves. Assumes nothing.
 use Prim.Native.Nat.{ℕ}
 use mathlib.Core.Path.{_≡_, refl}
 use mathlib.Core.List.{[], _∷_, map}
 use Rattle.patterns.specs.Walk.{span}
 use Rattle.tokens.specs.Tokens.{ascii}
+use Rattle.decimals.specs.Decimals.{greatest}
 use Rattle.lines.specs.declared.Asked.{Asked}
-use Rattle.lines.specs.declared.Upto.the-variants.{Place, Nowhere}
-use Rattle.lines.specs.Lines.{line-end, greatest, asked, after-bytes}
+use Rattle.lines.specs.Lines.{line-end, asked}
 use Rattle.lines.specs.Hex.{decoded}
 
 abbrev asks : ℕ → ℕ → ℕ → ℕ → Asked
@@ -28,10 +28,6 @@ empty = refl
 ends : map (line-end (ascii "ab\nc")) (0 ∷ 2 ∷ 3 ∷ 4 ∷ 9 ∷ []) ≡ 2 ∷ 2 ∷ 4 ∷ 4 ∷ 9 ∷ []
 unfolding span
 ends = refl
-
-behind : map (λ n. after-bytes (ascii "ab;b") n (ascii "b")) (0 ∷ 1 ∷ 3 ∷ 4 ∷ []) ≡ Nowhere ∷ Place 2 ∷ Place 4 ∷ Nowhere ∷ []
-unfolding after-bytes
-behind = refl
 
 -- a pair that is cut off and one with another byte end it, and so does the room
 in-hex : decoded 4 (ascii "0aff7") ∷ decoded 4 (ascii "90gf") ∷ decoded 1 (ascii "0aff") ∷ decoded 2 (ascii "FF") ∷ []

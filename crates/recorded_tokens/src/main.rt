@@ -1,17 +1,16 @@
 // Replays recorded answers of the Rust's tokenizer, and counts the sources on which the scanner answers otherwise.
 //
-// A record is a line: the mode, the source in hexadecimal and a space; then, for each token, a space, its kind, `:` and its end. It
-// stops at the first INVALID_UTF8 or UNKNOWN, of which it has a space, the kind, `@` and the start. The scanner's answers must give the
-// very same bytes, so a line that is no record counts as one that differs.
+// A record is a line: the source in hexadecimal, the number of the mode, and for each token two numbers, its kind and its end. It stops at
+// the first INVALID_UTF8 or UNKNOWN, of which it has the kind and the start. A space stands before each number; include/rattle.h says which
+// mode it is. A line that is no record counts as one that differs.
+use decimals::number_behind;
 use libc::STDERR_FILENO;
 use libc::STDIN_FILENO;
 use libc::STDOUT_FILENO;
-use lines::Upto;
 use scanner::Opened;
 use scanner::Reader;
 use scanner::Scan;
 use tokens::INVALID_UTF8;
-use tokens::Mode;
 use tokens::Token;
 
 // A step through a record: the reader and the place to go on at; or the end, and whether all was the same.
@@ -27,7 +26,7 @@ struct Tally {
 }
 
 // Room for all records.
-fn room() -> [u8; 600000] {
+fn text_room() -> [u8; 600000] {
     [0u8; 600000]
 }
 
@@ -37,45 +36,44 @@ fn at_end() -> bool {
     libc::read(STDIN_FILENO, &mut next) == 0
 }
 
-// The place after the number in decimal, where the record has it.
-fn after_number(record: &[u8], at: usize, n: u32) -> Upto {
-    let mut digits = [0u8; 20];
-    let k = io::decimal(n as u64, &mut digits);
-    lines::after_bytes(record, at, &digits[..k])
-}
-
-// The place after the mark and the number, where the record has them.
-fn after_field(record: &[u8], at: usize, mark: u8, n: u32) -> Upto {
-    match lines::after_bytes(record, at, &[mark]) {
-        Upto::Place(next) => after_number(record, next, n),
-        Upto::Nowhere => Upto::Nowhere,
+// The place after a space and the number, where the record has them; else the place itself.
+fn after_number(record: &[u8], at: usize, n: u32) -> usize {
+    let number = number_behind(record, at);
+    if number.value == n as usize {
+        return number.end;
     }
+    at
 }
 
-// The place after what a record has of the token.
-fn after_token(record: &[u8], at: usize, token: Token) -> Upto {
-    let kind = token.kind;
-    let Upto::Place(next) = after_field(record, at, b' ', kind) else {
-        return Upto::Nowhere;
-    };
-    if kind < INVALID_UTF8 {
-        after_field(record, next, b':', token.end.0)
+// What a record has of a token beside the kind: the end, or the start where it stops.
+fn place_of(token: Token) -> u32 {
+    if token.kind < INVALID_UTF8 {
+        token.end.0
     } else {
-        after_field(record, next, b'@', token.start.0)
+        token.start.0
     }
+}
+
+// The place after what a record has of the token; else the place itself.
+fn after_token(record: &[u8], at: usize, token: Token) -> usize {
+    let next = after_number(record, at, token.kind);
+    if next == at {
+        return at;
+    }
+    let end = after_number(record, next, place_of(token));
+    if end == next { at } else { end }
 }
 
 // Holds a token against the record at the place; `next` reads on behind it.
 fn compare_token(record: &[u8], at: usize, token: Token, next: Reader) -> Step {
-    match after_token(record, at, token) {
-        Upto::Place(there) => {
-            if token.kind < INVALID_UTF8 {
-                Step::On(next, there)
-            } else {
-                Step::Over(there == record.len())
-            }
-        }
-        Upto::Nowhere => Step::Over(false),
+    let there = after_token(record, at, token);
+    if there == at {
+        return Step::Over(false);
+    }
+    if token.kind < INVALID_UTF8 {
+        Step::On(next, there)
+    } else {
+        Step::Over(there == record.len())
     }
 }
 
@@ -113,84 +111,94 @@ fn is_same(record: &[u8], from: usize, src: &[u8], opened: Reader) -> bool {
 }
 
 // The reader with the switch to the mode.
-fn in_mode(reader: Reader, mode: Mode) -> Reader {
+fn in_mode(reader: Reader, mode: usize) -> Reader {
     match mode {
-        Mode::Normal => reader,
-        Mode::HexPattern => reader.enter_hex_pattern_mode(),
-        Mode::HexJump => reader.enter_hex_jump_mode(),
+        0 => reader,
+        1 => reader.enter_hex_pattern_mode(),
+        _ => reader.enter_hex_jump_mode(),
     }
 }
 
-// Whether the record has, from the place to its end, what the scanner answers on the source in the mode.
-fn is_answered(record: &[u8], at: usize, src: &[u8], mode: Mode) -> bool {
+// Whether the record has, from the place to its end, a mode and what the scanner answers on the source in it.
+fn is_answered(record: &[u8], at: usize, src: &[u8]) -> bool {
+    let mode = number_behind(record, at);
+    if (mode.end == at) | (mode.value > 2) {
+        return false;
+    }
     match Reader::open(src) {
-        Opened::Ready(reader) => is_same(record, at, src, in_mode(reader, mode)),
+        Opened::Ready(reader) => is_same(record, mode.end, src, in_mode(reader, mode.value)),
         Opened::Refused(_) => false,
     }
 }
 
-// Whether the record has, from the place on, a source, a space and what the scanner answers on the source in the mode.
-fn is_right_in(mode: Mode, record: &[u8], from: usize) -> bool {
+// Whether the record is one, and the scanner answers what it has.
+fn is_right(record: &[u8]) -> bool {
     let mut src = io::buffer();
-    let source = lines::decode(record, from, &mut src);
+    let source = lines::decode(record, 0, &mut src);
     let len = source.len;
-    let Upto::Place(at) = lines::after_bytes(record, source.end, b" ") else {
-        return false;
-    };
     if len > 4096 {
         return false;
     }
-    is_answered(record, at, &src[0..len], mode)
+    is_answered(record, source.end, &src[0..len])
 }
 
-// Whether the record is one, and the scanner answers what it has.
-fn is_right(record: &[u8]) -> bool {
-    if let Upto::Place(at) = lines::after_bytes(record, 0, b"normal ") {
-        return is_right_in(Mode::Normal, record, at);
+// The same of the line between two places. A last line with no LF was cut off, and is no record.
+fn is_line_right(text: &[u8], at: usize, end: usize) -> bool {
+    if end < at {
+        return false;
     }
-    if let Upto::Place(at) = lines::after_bytes(record, 0, b"pattern ") {
-        return is_right_in(Mode::HexPattern, record, at);
+    if text.len() <= end {
+        return false;
     }
-    if let Upto::Place(at) = lines::after_bytes(record, 0, b"jump ") {
-        return is_right_in(Mode::HexJump, record, at);
-    }
-    false
+    is_right(&text[at..end])
+}
+
+// Writes a number and what follows it.
+fn say(n: usize, what: &[u8]) {
+    io::print_decimal(STDOUT_FILENO, n as u64);
+    io::write_all(STDOUT_FILENO, what);
 }
 
 // Names a line that differs.
 fn write_differs(line: usize) {
     io::write_all(STDOUT_FILENO, b"line ");
-    io::print_decimal(STDOUT_FILENO, line as u64);
-    io::write_all(STDOUT_FILENO, b" differs\n");
+    say(line, b" differs\n");
 }
 
-// Replays each line of the text, and names those that differ. A last line with no LF was cut off, and differs.
-fn replay_lines(text: &[u8]) -> Tally {
-    let mut lines = 0;
-    let mut differ = 0;
-    let mut at = 0;
-    while at < text.len() {
-        let end = lines::line_end(text, at);
-        lines += 1;
-        if end == text.len() || !is_right(&text[at..end]) {
-            write_differs(lines);
-            differ += 1;
-        }
-        at = end + 1;
+// Counts a line more, and names it where it differs.
+fn counted(tally: Tally, right: bool) -> Tally {
+    let lines = std::num::wrapping_add_usize(tally.lines, 1);
+    let mut differ = tally.differ;
+    if !right {
+        write_differs(lines);
+        differ = std::num::wrapping_add_usize(differ, 1);
     }
     Tally { lines, differ }
 }
 
+// Replays each line of the text, and names those that differ.
+fn replay_lines(text: &[u8]) -> Tally {
+    let mut tally = Tally {
+        lines: 0,
+        differ: 0,
+    };
+    let mut at = 0;
+    while at < text.len() {
+        let end = lines::line_end(text, at);
+        tally = counted(tally, is_line_right(text, at, end));
+        at = end + 1;
+    }
+    tally
+}
+
 // The last line.
 fn write_tally(tally: Tally) {
-    io::print_decimal(STDOUT_FILENO, tally.lines as u64);
-    io::write_all(STDOUT_FILENO, b" sources, ");
-    io::print_decimal(STDOUT_FILENO, tally.differ as u64);
-    io::write_all(STDOUT_FILENO, b" differ\n");
+    say(tally.lines, b" sources, ");
+    say(tally.differ, b" differ\n");
 }
 
 fn main() {
-    let mut text = room();
+    let mut text = text_room();
     let n = io::read_full(STDIN_FILENO, &mut text);
     if !at_end() {
         io::write_all(

@@ -6,15 +6,20 @@ use std::io::Read;
 /// The least kind that is outside document 01's domain of equality: INVALID_UTF8, which only UNKNOWN follows.
 pub const FIRST_OUTSIDE: u32 = 81;
 
-/// The tokens of a source that is read from a mode on.
-fn tokens(source: &[u8], start: &str) -> Vec<Tok> {
-    let mut tokens = Tokens::open(source);
-    tokens.enter(match start {
+/// The mode of a name.
+fn mode(name: &str) -> Mode {
+    match name {
         "normal" => Mode::Normal,
         "pattern" => Mode::Pattern,
         "jump" => Mode::Jump,
         other => panic!("`{other}` is no mode"),
-    });
+    }
+}
+
+/// The tokens of a source that is read from a mode on.
+fn tokens(source: &[u8], start: &str) -> Vec<Tok> {
+    let mut tokens = Tokens::open(source);
+    tokens.enter(mode(start));
     tokens.collect()
 }
 
@@ -39,14 +44,14 @@ pub fn records(start: &str) {
     }
 }
 
-/// The record of a source: mode, source, kind and end of each token. It stops with kind and start of the first outside of the domain.
+/// The record of a source: source, mode, kind and end of each token. It stops with kind and start of the first outside of the domain.
 pub fn record(source: &[u8], start: &str) -> String {
-    let mut line = format!("{start} {} ", hex::text(source));
+    let mut line = format!("{} {}", hex::text(source), mode(start) as u32);
     for token in tokens(source, start) {
         if token.kind >= FIRST_OUTSIDE {
-            return format!("{line} {}@{}", token.kind, token.start);
+            return format!("{line} {} {}", token.kind, token.start);
         }
-        line += &format!(" {}:{}", token.kind, token.end);
+        line += &format!(" {} {}", token.kind, token.end);
     }
     line
 }

@@ -6,7 +6,8 @@ use borrow.Author.Needs.{needs}
 use borrow.Author.Tests.{leb-true}
 use lib.Dec.{leb}
 use Rattle.patterns.specs.Bools.{and-first}
-use Rattle.hex_pairs.specs.HexLaws.{digit-least, value-dec, value-letter, value-none}
+use Rattle.decimals.specs.DecimalLaws.{digit-least}
+use Rattle.hex_pairs.specs.HexLaws.{value-dec, value-letter, value-none}
 use Rattle.hex_pairs.proofs.hex_value.Statement.{statement}
 use Rattle.hex_pairs.proofs.hex_value.Tie as tie
 

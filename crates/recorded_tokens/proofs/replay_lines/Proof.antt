@@ -1,24 +1,19 @@
--- `recorded_tokens::replay_lines` is safe and ends: each line takes at least its LF, so there are no more lines than bytes passed, and no more of
--- them differ than there are. The measure is what is left of the text. Assumes nothing.
-use Prim.Native.Nat.{_+_, _-_, _≤_}
-use borrow.Author.Needs.{needs}
-use lib.ListN.{length}
-use mathlib.Core.Logic.{⊎-elim}
+-- `recorded_tokens::replay_lines` is safe and ends: a line that starts within the text ends within it, and the next starts behind it.
+-- The measure is what is left of the text. Assumes nothing.
+use Prim.Native.Nat.{_-_}
 use native.Mathlib.Omega.{arith}
+use lib.ListN.{length}
 use Rattle.lines.specs.Lines.{lf}
 use Rattle.lines.specs.LineLaws.{next-within}
+use borrow.Author.Needs.{needs}
 use Rattle.recorded_tokens.proofs.replay_lines.Statement.{statement}
 use Rattle.recorded_tokens.proofs.replay_lines.Tie as tie
 
 abbrev Inv-loop : tie.InvT-loop
-Inv-loop text lines₀ differ₀ at₀ lines differ at = (lines ≤ at) × (differ ≤ lines) × (at ≤ length text + 1)
+Inv-loop text tally₀ at₀ tally at = Unit {0}
 
 abbrev μ-loop : tie.MeasureT-loop
-μ-loop text lines₀ differ₀ at₀ lines differ at = length text - at
-
--- a line that starts within the text ends within it
-end-within : (c : tie.After-line-end Inv-loop μ-loop) → c .line-end .result ≤ length (c .before .before .before .before .args .text .now)
-end-within c = next-within _ _ lf (c .line-end .ensures) (omega arith)
+μ-loop text tally₀ at₀ tally at = length text - at
 
 loop-holds : tie.Need-loop-holds Inv-loop μ-loop
 loop-holds c = search needs
@@ -26,35 +21,20 @@ loop-holds c = search needs
 line-end-requires : tie.Need-line-end-requires Inv-loop μ-loop
 line-end-requires c κs = search needs
 
-add-lines : tie.Need-add-lines Inv-loop μ-loop
-add-lines c = search needs
+is-line-right-requires : tie.Need-is-line-right-requires Inv-loop μ-loop
+is-line-right-requires c κs = search needs
 
-sub-is-right : tie.Need-sub-is-right Inv-loop μ-loop
-sub-is-right c = search needs
-
-part-is-right-start : tie.Need-part-is-right-start Inv-loop μ-loop
-part-is-right-start c = search needs
-
-part-is-right-end : tie.Need-part-is-right-end Inv-loop μ-loop
-part-is-right-end c = omega (arith, end-within (c .before))
-
-is-right-requires : tie.Need-is-right-requires Inv-loop μ-loop
-is-right-requires c κs = search needs
-
-write-differs-requires : tie.Need-write-differs-requires Inv-loop μ-loop
-write-differs-requires c κs = search needs
-
-add-differ : tie.Need-add-differ Inv-loop μ-loop
-add-differ c = search needs
+counted-requires : tie.Need-counted-requires Inv-loop μ-loop
+counted-requires c κs = search needs
 
 add-at : tie.Need-add-at Inv-loop μ-loop
-add-at c = omega (arith, end-within (c .before))
+add-at c = omega (arith, next-within _ _ lf (c .before .before .line-end .ensures) (omega arith))
 
 loop-less : tie.Need-loop-less Inv-loop μ-loop
 loop-less c = search needs
 
 loop-again : tie.Need-loop-again Inv-loop μ-loop
-loop-again c = let h = end-within (c .before) in ⊎-elim (λ w. omega (arith, h)) (λ w. omega (arith, h)) (c .if1 .came)
+loop-again c = search needs
 
 returns : tie.Need-returns Inv-loop μ-loop
 returns c = search needs
@@ -67,13 +47,8 @@ replay-lines-spec =
     μ-loop
     loop-holds
     line-end-requires
-    add-lines
-    sub-is-right
-    part-is-right-start
-    part-is-right-end
-    is-right-requires
-    write-differs-requires
-    add-differ
+    is-line-right-requires
+    counted-requires
     add-at
     loop-less
     loop-again
