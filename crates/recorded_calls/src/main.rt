@@ -202,7 +202,7 @@ fn replay_in(slots: usize, src: &[u8], script: &[u32], answers: &mut [u32]) -> b
     if slots > 4096 {
         return false;
     }
-    exports::rattle_window(src, script, &mut room[..slots * 3], answers) == 0
+    c_window::rattle_window(src, script, &mut room[..slots * 3], answers) == 0
 }
 
 // How many answers are the recorded ones with so many slots; and whether these are all up to the first refusal 2.
