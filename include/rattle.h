@@ -1,4 +1,4 @@
-/* The C functions of the Rattle YARA scanner (crates/exports), in the static library that `./library` builds.
+/* The C functions of the Rattle YARA scanner (crates c_tokens, c_listing, c_window and c_events), in the static library that `./library` builds.
  *
  * Each answers 0, or the number of the refusal (document 01's, docs/01-scope.md; 15 is room that is too small). A refused call changes
  * nothing that is lent. They keep no state and allocate nothing: what they write, they write into what the caller lends, which no two

@@ -1,0 +1,51 @@
+// A line taken apart into what it asks for, its script and its source.
+use crate::calls;
+use crate::say;
+
+// Writes the script of a line, and says how many numbers it has.
+fn put(line: &[u8], script: &mut [u32]) -> usize {
+    let mut len = 0;
+    let mut at = lines::next_byte(line, 0, b';');
+    while len < script.len() {
+        at = lines::next_byte(line, at, b' ');
+        if at >= line.len() {
+            return len;
+        }
+        let asked = lines::ask(&line[at..]);
+        script[len] = lines::narrow(asked.first);
+        len += 1;
+        at += 1;
+    }
+    len
+}
+
+// The case of a line, up to its source.
+fn with_source(line: &[u8], src: &[u8], script: &mut [u32]) {
+    let asked = lines::ask(line);
+    let len = put(line, script);
+    if len <= script.len() {
+        calls::make(asked, src, &script[0..len]);
+    }
+}
+
+// The same with a long source.
+fn with_far(line: &[u8], far: &[u8]) {
+    let plus = lines::next_byte(line, 0, b'+');
+    if plus < line.len() {
+        with_source(line, far, &mut [0; 128]);
+    } else if far.len() > 0 {
+        with_source(line, &far[1..], &mut [0; 128]);
+    }
+}
+
+// Says a line, and runs its case.
+pub(crate) fn run(line: &[u8], far: &[u8]) {
+    say::text(line);
+    let bar = lines::next_byte(line, 0, b'|');
+    if bar < line.len() {
+        with_source(&line[0..bar], &line[bar + 1..], &mut [0; 128]);
+    } else {
+        with_far(line, far);
+    }
+    say::text(b"\n");
+}

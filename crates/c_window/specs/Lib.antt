@@ -1,0 +1,2 @@
+-- What the C function of the window leaves (WindowLeft).
+pub mod WindowLeft
