@@ -1,23 +1,14 @@
 // Characters that are cut off: INVALID_UTF8, byte by byte.
-use crate::modes::reader_at;
+use crate::modes::one_byte;
 use crate::say;
-use scanner::Scan;
 use tokens::INVALID_UTF8;
 use tokens::Mode;
 
-// Whether the byte at the place is one INVALID_UTF8.
-fn is_invalid(src: &[u8], at: u32) -> bool {
-    let Scan::Found(token, _) = reader_at(at, Mode::Normal).scan(src) else {
-        return false;
-    };
-    token.kind == INVALID_UTF8 && token.start.0 == at && token.end.0 as u64 == at as u64 + 1
-}
-
-// Whether each byte of a source of at most three is.
+// Whether each byte of a source of at most three is one INVALID_UTF8.
 fn is_broken(src: &[u8]) -> bool {
     let mut at: u32 = 0;
     while at < 3 && (at as usize) < src.len() {
-        if !is_invalid(src, at) {
+        if one_byte(src, at, Mode::Normal).kind != INVALID_UTF8 {
             return false;
         }
         at += 1;

@@ -5,7 +5,6 @@ use scanner::Reader;
 use scanner::Scan;
 use tokens::Mode;
 use tokens::Offset;
-use tokens::Token;
 
 // A reader that no call handed out.
 pub(crate) fn reader_at(place: u32, mode: Mode) -> Reader {
@@ -55,24 +54,38 @@ fn switches(mode: Mode) {
     say::text(b"\n");
 }
 
-// The kind of the token that a byte alone is, and a letter for the mode reached; a dash where the token is not that byte.
-fn cell(token: Token, next: Reader) {
-    let mode = next.mode;
-    if token.start.0 == 0 && token.end.0 == 1 && next.place.0 == 1 {
-        say::number(token.kind as usize);
-        say::letter(mode);
-    } else {
-        say::text(b"-");
-    }
+// A token that is one byte: its kind, and the mode reached. Kind 0 says that the token is not that byte.
+pub(crate) struct OneByte {
+    pub(crate) kind: u32,
+    pub(crate) mode: Mode,
 }
 
-// A byte alone.
+// The byte at a place of a source, read by itself.
+pub(crate) fn one_byte(src: &[u8], at: u32, mode: Mode) -> OneByte {
+    let Scan::Found(token, next) = reader_at(at, mode).scan(src) else {
+        return OneByte { kind: 0, mode };
+    };
+    let end = token.end.0;
+    let reached = next.mode;
+    if token.start.0 == at && end as u64 == at as u64 + 1 && next.place.0 == end {
+        return OneByte {
+            kind: token.kind,
+            mode: reached,
+        };
+    }
+    OneByte { kind: 0, mode }
+}
+
+// The kind of the token that a byte alone is, and a letter for the mode reached; a dash where the token is not that byte.
 fn byte_alone(b: u8, mode: Mode) {
-    let Scan::Found(token, next) = reader_at(0, mode).scan(&[b]) else {
+    let read = one_byte(&[b], 0, mode);
+    if read.kind == 0 {
         say::text(b"-");
         return;
-    };
-    cell(token, next);
+    }
+    say::number(read.kind as usize);
+    let reached = read.mode;
+    say::letter(reached);
 }
 
 // Every byte alone, sixteen to a line.

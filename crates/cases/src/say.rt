@@ -35,11 +35,12 @@ pub(crate) fn mode(m: Mode) {
 
 // A mode by the first letter of its name.
 pub(crate) fn letter(m: Mode) {
-    match m {
-        Mode::Normal => text(b"n"),
-        Mode::HexPattern => text(b"p"),
-        Mode::HexJump => text(b"j"),
-    }
+    let first = match m {
+        Mode::Normal => b'n',
+        Mode::HexPattern => b'p',
+        Mode::HexJump => b'j',
+    };
+    text(&[first]);
 }
 
 // The mode of a reader, and where it stands.

@@ -19,16 +19,21 @@ fn asked(src: &[u8], place: u32, mode: Mode) {
     }
 }
 
+// Places of a source of two bytes: its start, its end, past it, and as far past it as can be said.
+fn places(src: &[u8], mode: Mode) {
+    asked(src, 0, mode);
+    asked(src, 2, mode);
+    asked(src, 3, mode);
+    asked(src, 4294967295, mode);
+}
+
 // All that is asked in a mode.
 pub(crate) fn in_mode(mode: Mode) {
     say::text(b"source, ");
     say::mode(mode);
     say::text(b" mode");
     asked(b"", 0, mode);
-    asked(b"ab", 0, mode);
-    asked(b"ab", 2, mode);
-    asked(b"ab", 3, mode);
-    asked(b"ab", 4294967295, mode);
+    places(b"ab", mode);
     asked(&lengths::long_row(b' '), 0, mode);
     asked(&[192], 0, mode);
     say::text(b"\n");

@@ -17,8 +17,8 @@ loop-holds c = search needs
 cast-if1 : tie.Need-cast-if1 Inv-loop μ-loop
 cast-if1 c = search needs
 
-is-invalid-requires : tie.Need-is-invalid-requires Inv-loop μ-loop
-is-invalid-requires c κs = search needs
+one-byte-requires : tie.Need-one-byte-requires Inv-loop μ-loop
+one-byte-requires c κs = search needs
 
 returns : tie.Need-returns Inv-loop μ-loop
 returns c = search needs
@@ -46,7 +46,7 @@ is-broken-spec =
     μ-loop
     loop-holds
     cast-if1
-    is-invalid-requires
+    one-byte-requires
     returns
     add-at
     loop-less
