@@ -18,14 +18,17 @@ use Rattle.scripts.specs.Scripts.{calls-of}
 use Rattle.scripts.specs.Running.{Noted, ran, ran-all}
 use Rattle.scanner.specs.Reading.{source-limit}
 use Rattle.token_record.specs.Record.{done, refused, Reply, reply}
-use Rattle.window.specs.declared.Window.{Window}
 use Rattle.window.specs.declared.DoneGiven.{DoneGiven}
 use Rattle.window.specs.Window.{State, state, step, start, open-of, done-told, done-reply}
 use Rattle.window.specs.Determined.{done-read, done-same}
 use Rattle.demand3.specs.Simulation.{simulated, room-after}
 use Rattle.window_asking.specs.declared.ToldGiven.{ToldGiven}
 use Rattle.window_asking.specs.Asking.{form, told-numbers, told-reply, told-of}
-use Rattle.replay.specs.Script.{lent, replayed}
+use Rattle.replay.specs.Script.{Lent, lent, replayed}
+
+-- What is left of what was lent.
+abbrev pub left : State × List ℕ → Lent
+left x = lent (x .0 .room) (x .1)
 
 -- What a call by number gives, and the numbers of its answer written.
 pub note : {y : Reply State} {c : ToldGiven} {room before after : List ℕ} {at : ℕ}
@@ -68,16 +71,16 @@ module _ (src script room answers : List ℕ) (g : DoneGiven) (e : done-reply g 
         rw (le-ltb source-limit (length src) (open-done src room g e told .0), lt-ltb (length answers / 4) (length script / 2) h)
 
     -- all calls run from opening on
-    pub replayed-done : length script / 2 ≤ length answers / 4 → {u : Window} {room′ after : List ℕ}
-        → (state u room′, after) ≡ ran form (step src) script 0 (length script / 2) (state (g .window) room) answers
-        → reply (done-told (g .answer)) (lent room′ after) ≡ replayed src script room answers
+    pub replayed-done : length script / 2 ≤ length answers / 4 → {after : Lent}
+        → after ≡ left (ran form (step src) script 0 (length script / 2) (state (g .window) room) answers)
+        → reply (done-told (g .answer)) after ≡ replayed src script room answers
     unfolding replayed
     replayed-done h q =
         let o = open-done src room g e told in
         let cs = calls-of form script in
-        let p = (rw (o .1) at q) ∙ ran-all form (step src) script (length script / 2) (start src room) answers in
+        let p = (rw (o .1) at q) ∙ ap left (ran-all form (step src) script (length script / 2) (start src room) answers) in
         rw told (
-        ap (λ (x : State × List ℕ). reply done (lent (x .0 .room) (x .1))) p
+        ap (reply done) p
         ∙ rw (le-ltb source-limit (length src) (o .0), le-ltb (length answers / 4) (length script / 2) h, simulated src room cs (o .0), room-after src room cs (o .0))
         )
 

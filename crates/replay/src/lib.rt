@@ -8,6 +8,7 @@ ghost use Rattle.token_record.specs.Record.{reply};
 ghost use Rattle.window.specs.Window.{state, step, done-told};
 ghost use Rattle.window_asking.specs.Asking.{call-of, form, told-numbers};
 ghost use Rattle.replay.specs.Script.{lent, replayed};
+ghost use Rattle.replay.specs.ReplayLaws.{left};
 use refusals::DoneAnswer;
 use refusals::Refusal;
 use window::Window;
@@ -33,7 +34,7 @@ pub fn replay(src: &[u8], script: &[u32], room: &mut [u32], answers: &mut [u32])
     answer
 }
 
-// Runs the first calls of a script, and notes their answers from the front on; gives the window after them.
+// Runs the first calls of a script, and notes their answers from the front on.
 fn run(
     opened: Window,
     src: &[u8],
@@ -41,9 +42,9 @@ fn run(
     room: &mut [u32],
     answers: &mut [u32],
     calls: usize,
-) -> Window
+)
     requires { ⌜ (calls * 2 ≤ length (now script)) × (calls * 4 ≤ length (now answers)) ⌝ }
-    ensures { λ r. ⌜ (state r (now (room .exit)), now (answers .exit)) ≡ ran form (step (now (src .entry))) (now (script .entry)) 0 calls (state opened (now (room .entry))) (now (answers .entry)) ⌝ }
+    ensures { λ r. ⌜ lent (now (room .exit)) (now (answers .exit)) ≡ left (ran form (step (now (src .entry))) (now (script .entry)) 0 calls (state opened (now (room .entry))) (now (answers .entry))) ⌝ }
 {
     let mut window = opened;
     let mut i = 0;
@@ -53,7 +54,6 @@ fn run(
         window = call(window, src, room, answers, i * 4, op, arg);
         i += 1;
     }
-    window
 }
 
 // One call, by its number, and its answer noted at a place; gives the window after it.

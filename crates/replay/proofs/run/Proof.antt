@@ -1,7 +1,7 @@
 -- `replay::run` meets its contract. The loop's invariant: the calls that are left, run from here on, leave what all calls leave from the
 -- start. The measure is the number of calls that are left. Assumes nothing.
 use Prim.Native.Nat.{_≤_, _-_}
-use mathlib.Core.Path.{_≡_, refl, sym, _∙_}
+use mathlib.Core.Path.{_≡_, refl, sym, ap, _∙_}
 use native.Mathlib.Nat.{add-zero, sub-zero}
 use native.Mathlib.Omega.{arith}
 use borrow.Author.Needs.{needs}
@@ -9,6 +9,7 @@ use lib.ListN.{length}
 use Rattle.scripts.specs.Running.{ran, ran-call, ran-none}
 use Rattle.window.specs.Window.{state, step}
 use Rattle.window_asking.specs.Asking.{form}
+use Rattle.replay.specs.ReplayLaws.{left}
 use Rattle.replay.proofs.run.Statement.{statement}
 use Rattle.replay.proofs.run.Tie as tie
 
@@ -79,8 +80,10 @@ returns : tie.Need-returns Inv-loop μ-loop
 returns c =
     let l = c .before in
     let s = l .before .before .before .before .before .args in
+    ap left (
     sym (ran-none form (step (s .src .now)) (s .script .now) (l .loop .i) (s .calls) (state (l .loop .window) (l .loop .room)) (l .loop .answers) (omega arith))
     ∙ l .loop .inv .3
+    )
 
 pub run-spec : {M : Type 1} → statement M
 run-spec =
