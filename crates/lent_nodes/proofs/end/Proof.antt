@@ -1,4 +1,4 @@
--- `lent_writing::end` meets its contract: it has the shape `close-node`, and the covered call that it makes
+-- `lent_nodes::end` meets its contract: it has the shape `close-node`, and the covered call that it makes
 -- meets the same of the record by value. Assumes nothing.
 use mathlib.Core.List.{[], _∷_}
 use contract.Monad.{factI}
@@ -12,10 +12,10 @@ use Rattle.event_closing.proofs.end.Met as core-thm
 use Rattle.lent_calls.specs.Answers.{dones, stream-val}
 use Rattle.lent_calls.specs.Lifted.{spelt, meets}
 use Rattle.lent_calls.specs.Shapes.{close-node, closing}
-use Rattle.lent_writing.proofs.end as thin
-use Rattle.lent_writing.proofs.end.Key as key
-use Rattle.lent_writing.proofs.end.Statement as stated
-use Rattle.lent_writing.proofs.end.Code as code
+use Rattle.lent_nodes.proofs.end as thin
+use Rattle.lent_nodes.proofs.end.Key as key
+use Rattle.lent_nodes.proofs.end.Statement as stated
+use Rattle.lent_nodes.proofs.end.Code as code
 
 pub end-spec : {M : Type 1} → stated.statement M
 unfolding code.routine tablesOf

@@ -1,4 +1,4 @@
--- `lent_writing::push_token` meets its contract: it has the shape `push`, and the covered call that it makes
+-- `lent_pushing::push_token` meets its contract: it has the shape `push`, and the covered call that it makes
 -- meets the same of the record by value. Assumes nothing.
 use mathlib.Core.List.{[], _∷_}
 use contract.Monad.{factI}
@@ -12,10 +12,10 @@ use Rattle.event_pushing.proofs.push_token.Met as core-thm
 use Rattle.lent_calls.specs.Answers.{dones, stream-val}
 use Rattle.lent_calls.specs.Lifted.{spelt, meets}
 use Rattle.lent_calls.specs.Shapes.{push, pushing}
-use Rattle.lent_writing.proofs.push_token as thin
-use Rattle.lent_writing.proofs.push_token.Key as key
-use Rattle.lent_writing.proofs.push_token.Statement as stated
-use Rattle.lent_writing.proofs.push_token.Code as code
+use Rattle.lent_pushing.proofs.push_token as thin
+use Rattle.lent_pushing.proofs.push_token.Key as key
+use Rattle.lent_pushing.proofs.push_token.Statement as stated
+use Rattle.lent_pushing.proofs.push_token.Code as code
 
 pub push-token-spec : {M : Type 1} → stated.statement M
 unfolding code.routine tablesOf

@@ -1,4 +1,4 @@
--- `lent_writing::begin` meets its contract: it has the shape `open-node`, and the covered call that it makes
+-- `lent_nodes::begin` meets its contract: it has the shape `open-node`, and the covered call that it makes
 -- meets the same of the record by value. Assumes nothing.
 use mathlib.Core.List.{[], _∷_}
 use contract.Monad.{factI}
@@ -12,10 +12,10 @@ use Rattle.event_opening.proofs.begin.Met as core-thm
 use Rattle.lent_calls.specs.Answers.{dones, stream-val}
 use Rattle.lent_calls.specs.Lifted.{spelt, meets}
 use Rattle.lent_calls.specs.Shapes.{open-node, opening}
-use Rattle.lent_writing.proofs.begin as thin
-use Rattle.lent_writing.proofs.begin.Key as key
-use Rattle.lent_writing.proofs.begin.Statement as stated
-use Rattle.lent_writing.proofs.begin.Code as code
+use Rattle.lent_nodes.proofs.begin as thin
+use Rattle.lent_nodes.proofs.begin.Key as key
+use Rattle.lent_nodes.proofs.begin.Statement as stated
+use Rattle.lent_nodes.proofs.begin.Code as code
 
 pub begin-spec : {M : Type 1} → stated.statement M
 unfolding code.routine tablesOf
