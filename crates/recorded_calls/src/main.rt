@@ -42,12 +42,8 @@ fn text_room() -> [u8; 600000] {
     [0u8; 600000]
 }
 
-// Room for the numbers of 1,024 calls, and of their answers.
-fn script_room() -> [u32; 2048] {
-    [0u32; 2048]
-}
-
-fn answers_room() -> [u32; 4096] {
+// Room for the numbers of 1,024 answers, or of twice as many calls.
+fn numbers_room() -> [u32; 4096] {
     [0u32; 4096]
 }
 
@@ -63,9 +59,9 @@ fn at_end() -> bool {
 }
 
 // How many numbers are the same, from the first on.
-fn leading(recorded: &[u32], answers: &[u32; 4096]) -> usize {
+fn leading(recorded: &[u32; 4096], answers: &[u32; 4096]) -> usize {
     let mut n = 0;
-    while n < recorded.len() && n < 4096 {
+    while n < 4096 {
         if recorded[n] != answers[n] {
             return n;
         }
@@ -82,12 +78,18 @@ fn is_refusal_2(answers: &[u32; 4096], at: usize) -> bool {
     (answers[at] == 5) & (answers[at + 1] == 2)
 }
 
-// Holds answers against the recorded ones.
-fn compared(recorded: &[u32], answers: &[u32; 4096]) -> InRoom {
+// Holds so many answers against the recorded ones. Behind them both have 0.
+fn compared(calls: usize, recorded: &[u32; 4096], answers: &[u32; 4096]) -> InRoom {
     let same = leading(recorded, answers) / 4;
+    if same >= calls {
+        return InRoom {
+            answers: calls,
+            right: true,
+        };
+    }
     InRoom {
         answers: same,
-        right: (same == recorded.len() / 4) | is_refusal_2(answers, same * 4),
+        right: is_refusal_2(answers, same * 4),
     }
 }
 
@@ -101,10 +103,10 @@ fn replay_in(slots: usize, src: &[u8], script: &[u32], answers: &mut [u32]) -> b
 }
 
 // Replays a sequence with so many slots.
-fn answered_in(slots: usize, src: &[u8], script: &[u32], recorded: &[u32]) -> InRoom {
-    let mut answers = answers_room();
+fn answered_in(slots: usize, src: &[u8], script: &[u32], recorded: &[u32; 4096]) -> InRoom {
+    let mut answers = numbers_room();
     if replay_in(slots, src, script, &mut answers) {
-        return compared(recorded, &answers);
+        return compared(script.len() / 2, recorded, &answers);
     }
     InRoom {
         answers: 0,
@@ -113,7 +115,7 @@ fn answered_in(slots: usize, src: &[u8], script: &[u32], recorded: &[u32]) -> In
 }
 
 // Replays a sequence with 0 to 8 slots, and adds up the answers.
-fn answered_in_few(src: &[u8], script: &[u32], recorded: &[u32]) -> InRoom {
+fn answered_in_few(src: &[u8], script: &[u32], recorded: &[u32; 4096]) -> InRoom {
     let mut answers = 0;
     let mut right = true;
     let mut slots = 0;
@@ -127,10 +129,10 @@ fn answered_in_few(src: &[u8], script: &[u32], recorded: &[u32]) -> InRoom {
 }
 
 // Replays a sequence with ample room, and with 0 to 8 slots.
-fn answered(src: &[u8], script: &[u32], recorded: &[u32]) -> Outcome {
+fn answered(src: &[u8], script: &[u32], recorded: &[u32; 4096]) -> Outcome {
     let ample = answered_in(4096, src, script, recorded);
     let few = answered_in_few(src, script, recorded);
-    let answers = recorded.len() / 4;
+    let answers = script.len() / 2;
     Outcome {
         answers,
         small: few.answers,
@@ -148,13 +150,13 @@ fn no_record() -> Outcome {
 }
 
 // Reads the numbers at the place, each behind a space, as many as there is room for.
-fn read_numbers(record: &[u8], from: usize, out: &mut [u32]) -> Numbers
+fn read_numbers(text: &[u8], from: usize, out: &mut [u32]) -> Numbers
     ensures { λ r. ⌜ r .count ≤ length (now (out .entry)) ⌝ }
 {
     let mut count = 0;
     let mut end = from;
     while count < out.len() {
-        let number = decimals::number_behind(record, end);
+        let number = decimals::number_behind(text, end);
         if number.end == end {
             return Numbers { count, end };
         }
@@ -170,49 +172,38 @@ fn is_script(calls: usize, answers: usize) -> bool {
     (answers % 4 == 0) & (answers / 2 == calls)
 }
 
-// Replays the calls on the source; the record has their answers at the place, to its end.
-fn replay_calls(record: &[u8], at: usize, src: &[u8], script: &[u32]) -> Outcome {
-    let mut room = answers_room();
-    let recorded = read_numbers(record, at, &mut room);
-    let count = recorded.count;
-    if (recorded.end == record.len()) & is_script(script.len(), count) {
-        return answered(src, script, &room[0..count]);
+// Replays the calls on the source; the text has their answers at the place, and LF behind them.
+fn replay_calls(text: &[u8], at: usize, src: &[u8], script: &[u32]) -> Outcome {
+    let mut room = numbers_room();
+    let recorded = read_numbers(text, at, &mut room);
+    let whole = places::byte_at(text, recorded.end) == b'\n';
+    if whole & is_script(script.len(), recorded.count) {
+        return answered(src, script, &room);
     }
     no_record()
 }
 
-// Replays the calls that the record has at the place, on the source.
-fn replay_on(record: &[u8], at: usize, src: &[u8]) -> Outcome {
-    let mut room = script_room();
-    let script = read_numbers(record, at, &mut room);
+// Replays the calls that the text has at the place, on the source.
+fn replay_on(text: &[u8], at: usize, src: &[u8]) -> Outcome {
+    let mut room = numbers_room();
+    let script = read_numbers(text, at, &mut room);
     let end = script.end;
     let count = script.count;
-    if places::byte_at(record, end) == b';' {
-        return replay_calls(record, end + 1, src, &room[0..count]);
+    if places::byte_at(text, end) == b';' {
+        return replay_calls(text, end + 1, src, &room[..count]);
     }
     no_record()
 }
 
-// Replays a record.
-fn replay_record(record: &[u8]) -> Outcome {
+// Replays the record at the place. A last line with no LF was cut off, and is none.
+fn replay_record(text: &[u8], at: usize) -> Outcome {
     let mut src = io::buffer();
-    let source = lines::decode(record, 0, &mut src);
+    let source = lines::decode(text, at, &mut src);
     let len = source.len;
     if len > 4096 {
         return no_record();
     }
-    replay_on(record, source.end, &src[0..len])
-}
-
-// Replays the line between two places. A last line with no LF was cut off, and is no record.
-fn replay_line(text: &[u8], at: usize, end: usize) -> Outcome {
-    if end < at {
-        return no_record();
-    }
-    if text.len() <= end {
-        return no_record();
-    }
-    replay_record(&text[at..end])
+    replay_on(text, source.end, &src[..len])
 }
 
 // Writes a number and what follows it.
@@ -254,7 +245,7 @@ fn replay_lines(text: &[u8]) -> Tally {
     let mut at = 0;
     while at < text.len() {
         let end = lines::line_end(text, at);
-        tally = counted(tally, replay_line(text, at, end));
+        tally = counted(tally, replay_record(text, at));
         at = end + 1;
     }
     tally

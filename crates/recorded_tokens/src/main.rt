@@ -36,9 +36,14 @@ fn at_end() -> bool {
     libc::read(STDIN_FILENO, &mut next) == 0
 }
 
-// The place after a space and the number, where the record has them; else the place itself.
-fn after_number(record: &[u8], at: usize, n: u32) -> usize {
-    let number = number_behind(record, at);
+// Whether a line ends at the place.
+fn is_line_end(text: &[u8], at: usize) -> bool {
+    places::byte_at(text, at) == b'\n'
+}
+
+// The place after a space and the number, where the text has them; else the place itself.
+fn after_number(text: &[u8], at: usize, n: u32) -> usize {
+    let number = number_behind(text, at);
     if number.value == n as usize {
         return number.end;
     }
@@ -54,36 +59,36 @@ fn place_of(token: Token) -> u32 {
     }
 }
 
-// The place after what a record has of the token; else the place itself.
-fn after_token(record: &[u8], at: usize, token: Token) -> usize {
-    let next = after_number(record, at, token.kind);
+// The place after what a record has of the token, where the text has it; else the place itself.
+fn after_token(text: &[u8], at: usize, token: Token) -> usize {
+    let next = after_number(text, at, token.kind);
     if next == at {
         return at;
     }
-    let end = after_number(record, next, place_of(token));
+    let end = after_number(text, next, place_of(token));
     if end == next { at } else { end }
 }
 
-// Holds a token against the record at the place; `next` reads on behind it.
-fn compare_token(record: &[u8], at: usize, token: Token, next: Reader) -> Step {
-    let there = after_token(record, at, token);
+// Holds a token against the text at the place; `next` reads on behind it.
+fn compare_token(text: &[u8], at: usize, token: Token, next: Reader) -> Step {
+    let there = after_token(text, at, token);
     if there == at {
         return Step::Over(false);
     }
     if token.kind < INVALID_UTF8 {
         Step::On(next, there)
     } else {
-        Step::Over(there == record.len())
+        Step::Over(is_line_end(text, there))
     }
 }
 
-// Holds what the reader answers against the record at the place. A token starts where the reader stands.
-fn compare_next(record: &[u8], at: usize, src: &[u8], reader: Reader) -> Step {
+// Holds what the reader answers against the text at the place. A token starts where the reader stands.
+fn compare_next(text: &[u8], at: usize, src: &[u8], reader: Reader) -> Step {
     match reader.scan(src) {
-        Scan::End => Step::Over(at == record.len()),
+        Scan::End => Step::Over(is_line_end(text, at)),
         Scan::Found(token, next) => {
             if token.start.0 == reader.place.0 {
-                compare_token(record, at, token, next)
+                compare_token(text, at, token, next)
             } else {
                 Step::Over(false)
             }
@@ -92,13 +97,13 @@ fn compare_next(record: &[u8], at: usize, src: &[u8], reader: Reader) -> Step {
     }
 }
 
-// Whether the record has, from the place to its end, what the reader answers. No source has more tokens than bytes.
-fn is_same(record: &[u8], from: usize, src: &[u8], opened: Reader) -> bool {
+// Whether the line has, from the place to its end, what the reader answers. No source has more tokens than bytes.
+fn is_same(text: &[u8], from: usize, src: &[u8], opened: Reader) -> bool {
     let mut at = from;
     let mut reader = opened;
     let mut turns = 0;
     while turns <= src.len() {
-        match compare_next(record, at, src, reader) {
+        match compare_next(text, at, src, reader) {
             Step::On(next, there) => {
                 reader = next;
                 at = there;
@@ -119,38 +124,27 @@ fn in_mode(reader: Reader, mode: usize) -> Reader {
     }
 }
 
-// Whether the record has, from the place to its end, a mode and what the scanner answers on the source in it.
-fn is_answered(record: &[u8], at: usize, src: &[u8]) -> bool {
-    let mode = number_behind(record, at);
+// Whether the line has, from the place to its end, a mode and what the scanner answers on the source in it.
+fn is_answered(text: &[u8], at: usize, src: &[u8]) -> bool {
+    let mode = number_behind(text, at);
     if (mode.end == at) | (mode.value > 2) {
         return false;
     }
     match Reader::open(src) {
-        Opened::Ready(reader) => is_same(record, mode.end, src, in_mode(reader, mode.value)),
+        Opened::Ready(reader) => is_same(text, mode.end, src, in_mode(reader, mode.value)),
         Opened::Refused(_) => false,
     }
 }
 
-// Whether the record is one, and the scanner answers what it has.
-fn is_right(record: &[u8]) -> bool {
+// Whether the text has a record at the place, and the scanner answers what it has. A last line with no LF was cut off, and is none.
+fn is_right(text: &[u8], at: usize) -> bool {
     let mut src = io::buffer();
-    let source = lines::decode(record, 0, &mut src);
+    let source = lines::decode(text, at, &mut src);
     let len = source.len;
     if len > 4096 {
         return false;
     }
-    is_answered(record, source.end, &src[0..len])
-}
-
-// The same of the line between two places. A last line with no LF was cut off, and is no record.
-fn is_line_right(text: &[u8], at: usize, end: usize) -> bool {
-    if end < at {
-        return false;
-    }
-    if text.len() <= end {
-        return false;
-    }
-    is_right(&text[at..end])
+    is_answered(text, source.end, &src[..len])
 }
 
 // Writes a number and what follows it.
@@ -185,7 +179,7 @@ fn replay_lines(text: &[u8]) -> Tally {
     let mut at = 0;
     while at < text.len() {
         let end = lines::line_end(text, at);
-        tally = counted(tally, is_line_right(text, at, end));
+        tally = counted(tally, is_right(text, at));
         at = end + 1;
     }
     tally

@@ -8,10 +8,10 @@ use Rattle.recorded_calls.proofs.read_numbers.Statement.{statement}
 use Rattle.recorded_calls.proofs.read_numbers.Tie as tie
 
 abbrev Inv-loop : tie.InvT-loop
-Inv-loop «record» from out₀ count₀ end₀ out count end = (count ≤ length out₀) × (length out ≡ length out₀)
+Inv-loop text from out₀ count₀ end₀ out count end = (count ≤ length out₀) × (length out ≡ length out₀)
 
 abbrev μ-loop : tie.MeasureT-loop
-μ-loop «record» from out₀ count₀ end₀ out count end = length out₀ - count
+μ-loop text from out₀ count₀ end₀ out count end = length out₀ - count
 
 loop-holds : tie.Need-loop-holds Inv-loop μ-loop
 loop-holds c = search needs

@@ -21,8 +21,8 @@ loop-holds c = search needs
 line-end-requires : tie.Need-line-end-requires Inv-loop μ-loop
 line-end-requires c κs = search needs
 
-replay-line-requires : tie.Need-replay-line-requires Inv-loop μ-loop
-replay-line-requires c κs = search needs
+replay-record-requires : tie.Need-replay-record-requires Inv-loop μ-loop
+replay-record-requires c κs = search needs
 
 counted-requires : tie.Need-counted-requires Inv-loop μ-loop
 counted-requires c κs = search needs
@@ -47,7 +47,7 @@ replay-lines-spec =
     μ-loop
     loop-holds
     line-end-requires
-    replay-line-requires
+    replay-record-requires
     counted-requires
     add-at
     loop-less

@@ -1,13 +1,15 @@
--- `recorded_calls::replay_on` is safe: where the record has `;` there is a next place, and no more was read than there is room for.
+-- `recorded_calls::replay_on` is safe: where the text has `;` there is a next place, and no more was read than there is room for.
 -- Assumes nothing.
+use mathlib.Core.Path.{sym}
 use native.Mathlib.Omega.{arith}
+use lib.Seq.{length-take-le}
 use Rattle.places.specs.Signs.{inside}
 use borrow.Author.Needs.{needs}
 use Rattle.recorded_calls.proofs.replay_on.Statement.{statement}
 use Rattle.recorded_calls.proofs.replay_on.Tie as tie
 
-script-room-requires : tie.Need-script-room-requires
-script-room-requires c κs = search needs
+numbers-room-requires : tie.Need-numbers-room-requires
+numbers-room-requires c κs = search needs
 
 slice-aggregate-read-numbers : tie.Need-slice-aggregate-read-numbers
 slice-aggregate-read-numbers c = search needs
@@ -21,14 +23,11 @@ byte-at-requires c κs = search needs
 add-replay-calls : tie.Need-add-replay-calls
 add-replay-calls c = omega (arith, inside (c .before .byte-at .ensures) (λ e. omega arith))
 
-sub-replay-calls : tie.Need-sub-replay-calls
-sub-replay-calls c = search needs
+array-share-prefix-room : tie.Need-array-share-prefix-room
+array-share-prefix-room c = search needs
 
-part-replay-calls-start : tie.Need-part-replay-calls-start
-part-replay-calls-start c = search needs
-
-part-replay-calls-end : tie.Need-part-replay-calls-end
-part-replay-calls-end c = search needs
+slice-aggregate-replay-calls : tie.Need-slice-aggregate-replay-calls
+slice-aggregate-replay-calls c = sym (length-take-le _ _ (omega arith))
 
 replay-calls-requires : tie.Need-replay-calls-requires
 replay-calls-requires c κs = search needs
@@ -46,14 +45,13 @@ pub replay-on-spec : {M : Type 1} → statement M
 replay-on-spec =
     tie.close
     (tie.spec
-    script-room-requires
+    numbers-room-requires
     slice-aggregate-read-numbers
     read-numbers-requires
     byte-at-requires
     add-replay-calls
-    sub-replay-calls
-    part-replay-calls-start
-    part-replay-calls-end
+    array-share-prefix-room
+    slice-aggregate-replay-calls
     replay-calls-requires
     returns
     no-record-requires

@@ -7,10 +7,10 @@ use Rattle.recorded_tokens.proofs.is_same.Statement.{statement}
 use Rattle.recorded_tokens.proofs.is_same.Tie as tie
 
 abbrev Inv-loop : tie.InvT-loop
-Inv-loop «record» from src at₀ reader₀ turns₀ at reader turns = turns ≤ length src + 1
+Inv-loop text from src at₀ reader₀ turns₀ at reader turns = turns ≤ length src + 1
 
 abbrev μ-loop : tie.MeasureT-loop
-μ-loop «record» from src at₀ reader₀ turns₀ at reader turns = length src + 1 - turns
+μ-loop text from src at₀ reader₀ turns₀ at reader turns = length src + 1 - turns
 
 loop-holds : tie.Need-loop-holds Inv-loop μ-loop
 loop-holds c = search needs

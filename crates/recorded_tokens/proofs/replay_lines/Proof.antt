@@ -21,8 +21,8 @@ loop-holds c = search needs
 line-end-requires : tie.Need-line-end-requires Inv-loop μ-loop
 line-end-requires c κs = search needs
 
-is-line-right-requires : tie.Need-is-line-right-requires Inv-loop μ-loop
-is-line-right-requires c κs = search needs
+is-right-requires : tie.Need-is-right-requires Inv-loop μ-loop
+is-right-requires c κs = search needs
 
 counted-requires : tie.Need-counted-requires Inv-loop μ-loop
 counted-requires c κs = search needs
@@ -47,7 +47,7 @@ replay-lines-spec =
     μ-loop
     loop-holds
     line-end-requires
-    is-line-right-requires
+    is-right-requires
     counted-requires
     add-at
     loop-less
