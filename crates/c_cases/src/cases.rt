@@ -20,11 +20,11 @@ fn put(line: &[u8], script: &mut [u32]) -> usize {
 }
 
 // The case of a line, up to its source.
-fn with_source(line: &[u8], src: &[u8], script: &mut [u32]) {
-    let asked = lines::ask(line);
-    let len = put(line, script);
-    if len <= script.len() {
-        calls::make(asked, src, &script[0..len]);
+fn with_source(line: &[u8], src: &[u8]) {
+    let mut script = [0; 128];
+    let len = put(line, &mut script);
+    if len <= 128 {
+        calls::make(lines::ask(line), src, &script[0..len]);
     }
 }
 
@@ -32,9 +32,9 @@ fn with_source(line: &[u8], src: &[u8], script: &mut [u32]) {
 fn with_far(line: &[u8], far: &[u8]) {
     let plus = lines::next_byte(line, 0, b'+');
     if plus < line.len() {
-        with_source(line, far, &mut [0; 128]);
+        with_source(line, far);
     } else if far.len() > 0 {
-        with_source(line, &far[1..], &mut [0; 128]);
+        with_source(line, &far[1..]);
     }
 }
 
@@ -43,7 +43,7 @@ pub(crate) fn run(line: &[u8], far: &[u8]) {
     say::text(line);
     let bar = lines::next_byte(line, 0, b'|');
     if bar < line.len() {
-        with_source(&line[0..bar], &line[bar + 1..], &mut [0; 128]);
+        with_source(&line[0..bar], &line[bar + 1..]);
     } else {
         with_far(line, far);
     }
