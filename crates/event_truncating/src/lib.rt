@@ -41,7 +41,7 @@ fn cut_balanced(stream: Stream, room: &[u32], from: Position) -> DoneGiven
     ensures { λ r. ⌜ ((opens : List ℕ) → Fit (state stream (now (room .entry)) opens) → done-reply r (now (room .entry)) opens ≡ answered (truncate-call from) (state stream (now (room .entry)) opens)) ⌝ }
 {
     let front = stream.front;
-    if event_reading::is_balanced(room, front, from.0, stream.count) {
+    if event_balance::is_balanced(room, front, from.0, stream.count) {
         let gone = stream.gone;
         let last = event_reading::last_token(room, front, from.0, gone);
         events::counted(stream, from.0, stream.opened, last)

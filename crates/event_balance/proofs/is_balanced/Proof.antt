@@ -1,4 +1,4 @@
--- `event_reading::is_balanced` meets its contract. The loop's invariant: the events from `i` on balance with `depth` nodes open exactly if
+-- `event_balance::is_balanced` meets its contract. The loop's invariant: the events from `i` on balance with `depth` nodes open exactly if
 -- those from the position on balance with none; and no more nodes are open than events were passed. Assumes nothing.
 use Prim.Native.Nat.{_+_, _-_, _≤_}
 use mathlib.Core.Path.{_≡_, ap, sym, _∙_}
@@ -7,9 +7,9 @@ use borrow.Author.Needs.{needs}
 use lib.ListN.{length, drop}
 use Rattle.event_record.specs.Record.{balanced}
 use Rattle.event_room.specs.Room.{slots-in, listed}
-use Rattle.event_reading.specs.ReadingLaws.{one-more, balanced-start, balanced-here, balanced-end}
-use Rattle.event_reading.proofs.is_balanced.Statement.{statement}
-use Rattle.event_reading.proofs.is_balanced.Tie as tie
+use Rattle.event_balance.specs.BalanceLaws.{one-more, balanced-start, balanced-here, balanced-end}
+use Rattle.event_balance.proofs.is_balanced.Statement.{statement}
+use Rattle.event_balance.proofs.is_balanced.Tie as tie
 
 abbrev Inv-loop : tie.InvT-loop
 Inv-loop room front from count slots depth₀ i₀ depth i =

@@ -1,11 +1,11 @@
--- `event_reading::depth_behind` meets its contract: its tests are the definition's, and an End that is not unmatched ends an open node.
+-- `event_balance::depth_behind` meets its contract: its tests are the definition's, and an End that is not unmatched ends an open node.
 -- Assumes nothing.
 use borrow.Author.Needs.{needs}
 use borrow.Author.Tests.{eq-eqb, ne-eqb}
 use Rattle.event_record.specs.Record.{begin-tag, end-tag}
-use Rattle.event_reading.specs.ReadingLaws.{one-open}
-use Rattle.event_reading.proofs.depth_behind.Statement.{statement}
-use Rattle.event_reading.proofs.depth_behind.Tie as tie
+use Rattle.event_balance.specs.BalanceLaws.{one-open}
+use Rattle.event_balance.proofs.depth_behind.Statement.{statement}
+use Rattle.event_balance.proofs.depth_behind.Tie as tie
 
 add-result : tie.Need-add-result
 add-result c = search needs

@@ -1,0 +1,2 @@
+-- The turns of the loop that asks for balance.
+pub mod BalanceLaws
