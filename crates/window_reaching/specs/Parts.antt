@@ -1,8 +1,9 @@
--- What the functions inside the crate leave: what fetching comes to, before the window is read on to it.
+-- What the functions inside the crate leave: what fetching comes to, and what is given where nothing is fetched.
 -- Assumes nothing.
 use Prim.Native.Nat.{ℕ}
 use mathlib.Core.List.{List}
 use Rattle.tokens.specs.declared.TokenIndex.{TokenIndex}
+use Rattle.refusals.specs.declared.DoneAnswer.{DoneAnswer}
 use Rattle.refusals.specs.declared.DoneAnswer.the-variants as of-done
 use Rattle.scanner.specs.declared.Reader.{Reader}
 use Rattle.token_record.specs.Record.{Reply}
@@ -10,16 +11,13 @@ use Rattle.fetching.specs.declared.Fetched.{Fetched}
 use Rattle.fetching.specs.declared.Fetched.the-variants.{Upto, Refused}
 use Rattle.fetching.specs.Fetching.{Outcome}
 use Rattle.window.specs.declared.Window.{Window}
-use Rattle.window.specs.declared.DoneGiven.{DoneGiven}
 use Rattle.window_reaching.specs.declared.Reached.{Reached}
-use Rattle.window.specs.Window.{State, read-on, done-reply}
+use Rattle.window.specs.Window.{State, done-reply}
+use Rattle.window_reaching.specs.Reaching.{reached}
 
--- what the window is where fetching came to r; and nothing fetched
-abbrev pub reached : Window → Reached → DoneGiven
-reached w r = record { answer = r .answer; window = read-on (r .reader) (r .fetched .0) w }
-
-abbrev pub still : Window → Reached
-still w = record { answer = of-done.Done; reader = w .reader; fetched = w .fetched }
+-- an answer with nothing fetched
+abbrev pub still : Window → DoneAnswer → Reached
+still w a = record { answer = a; reader = w .reader; fetched = w .fetched }
 
 -- what the code makes of fetching's answer, from a reader and the number fetched on; and what the window is then
 abbrev pub gained : Reader → TokenIndex → Fetched → Reached

@@ -9,6 +9,8 @@ use lib.ListN.{length}
 use lib.Dec.{leb, ltb}
 use borrow.Author.Tests.{le-leb, lt-leb, le-ltb, ltb-true, ltb-false, leb-true, leb-false}
 use Rattle.patterns.specs.Bools.{by-test}
+use Rattle.patterns.specs.Determined.{Once, once}
+use Rattle.refusals.specs.declared.DoneAnswer.{DoneAnswer}
 use Rattle.tokens.specs.declared.TokenIndex.{TokenIndex}
 use Rattle.scanner.specs.declared.Reader.{Reader}
 use Rattle.scanner.specs.Reading.{source-limit, ahead}
@@ -17,10 +19,13 @@ use Rattle.scanner.specs.Following.{ahead-all}
 use Rattle.token_record.specs.Record.{done, refused, reply, least}
 use Rattle.fetching.specs.Fetching.{fetched}
 use Rattle.bookmarks.specs.HeldLaws.{least-le}
-use Rattle.window.specs.Window.{State, marks, kept, sound, fetch}
+use Rattle.window.specs.declared.Window.{Window}
+use Rattle.window.specs.Window.{State, marks, kept, sound, fetch, done-reply}
 use Rattle.window.specs.SoundLaws.{Fit, fit-sound}
 use Rattle.window.specs.WindowLaws.{fetch-none}
-use Rattle.window_reaching.specs.Reaching.{reach}
+use Rattle.window.specs.Determined.{done-read, done-same}
+use Rattle.window_reaching.specs.declared.Reached.{Reached}
+use Rattle.window_reaching.specs.Reaching.{reach, reached}
 use Rattle.window_reaching.specs.Parts.{turned}
 
 -- from the limit on, every number of tokens is all of them
@@ -85,3 +90,9 @@ module _ (src : List ℕ) (s : State) where
         ≡ fetched src (w .reader) (s .room) (w .fetched) (beyond (suc n)) (w .slots - kept w) =
         rw (p, q, k) (fetched-most src (w .reader) (s .room) (w .fetched) (beyond (suc n)) (w .slots - kept w) (f .limit)) in
         ap (turned w) most ∙ reached-fetched (suc n)
+
+-- The contract of reaching leaves no choice: what it came to can be read back.
+pub reached-once : (w : Window) → Once (λ (p : Reached × List ℕ). done-reply (reached w (p .0)) (p .1))
+reached-once w =
+    once _ (λ y. (record { answer = done-read (y .answer); reader = y .after .window .reader; fetched = y .after .window .fetched }, y .after .room))
+    (λ p. ap (λ (a : DoneAnswer). (record { answer = a; reader = p .0 .reader; fetched = p .0 .fetched }, p .1)) (done-same (p .0 .answer)))

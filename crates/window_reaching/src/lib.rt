@@ -6,40 +6,31 @@ ghost use Rattle.scanner.specs.Reading.{source-limit};
 ghost use Rattle.fetching.specs.Fetching.{fetched};
 ghost use Rattle.window.specs.Window.{state, done-reply};
 ghost use Rattle.window.specs.SoundLaws.{Fit};
-ghost use Rattle.window_reaching.specs.Reaching.{reach};
-ghost use Rattle.window_reaching.specs.Parts.{reached, still, gathered};
+ghost use Rattle.window_reaching.specs.Reaching.{reach, reached};
+ghost use Rattle.window_reaching.specs.Parts.{still, gathered};
 use fetching::Fetched;
 use refusals::DoneAnswer;
 use refusals::Refusal;
 use scanner::Reader;
 use scanner::SOURCE_LIMIT;
 use tokens::TokenIndex;
-use window::DoneGiven;
 use window::Window;
 
-// What fetching comes to: whether it was refused, and the reader and the number of tokens fetched after it.
-struct Reached {
-    answer: DoneAnswer,
-    reader: Reader,
-    fetched: TokenIndex,
+// What a call comes to that wants tokens: whether it is refused, and where the window reads on: its reader, and the number of tokens fetched.
+pub struct Reached {
+    pub answer: DoneAnswer,
+    pub reader: Reader,
+    pub fetched: TokenIndex,
 }
 
-// The window with the token n after the current one fetched, or with all up to the end; refused, the window as it was.
-pub fn reach(window: Window, src: &[u8], room: &mut [u32], n: usize) -> DoneGiven
-    ensures { λ r. ⌜ done-reply r (now (room .exit)) ≡ reach (now (src .entry)) (suc n) (state window (now (room .entry))) ⌝ }
+// Fetches up to the token n after the current one, or all up to the end; refused, the window reads on as it was.
+pub fn reach(window: Window, src: &[u8], room: &mut [u32], n: usize) -> Reached
+    ensures { λ r. ⌜ done-reply (reached window r) (now (room .exit)) ≡ reach (now (src .entry)) (suc n) (state window (now (room .entry))) ⌝ }
 {
-    if !window_tests::is_sound(window, src.len(), room.len()) {
-        return DoneGiven {
-            answer: DoneAnswer::Refused(Refusal::NotAsOpened),
-            window,
-        };
+    if window_tests::is_sound(window, src.len(), room.len()) {
+        return fetch(window, src, room, n);
     }
-    let reached = fetch(window, src, room, n);
-    let answer = reached.answer;
-    DoneGiven {
-        answer,
-        window: window.read_on(reached.reader, reached.fetched),
-    }
+    still(window, DoneAnswer::Refused(Refusal::NotAsOpened))
 }
 
 // Fetches up to the token n after the current one. Where that one is there, nothing is to be fetched.
@@ -49,7 +40,7 @@ fn fetch(window: Window, src: &[u8], room: &mut [u32], n: usize) -> Reached
 {
     let ready = (window.fetched.0 - window.current.0) as usize;
     if n < ready {
-        return still(window);
+        return still(window, DoneAnswer::Done);
     }
     let reader = window.reader;
     let first = window.fetched;
@@ -82,14 +73,14 @@ fn gather(
     }
 }
 
-// Nothing fetched.
-fn still(window: Window) -> Reached
-    ensures { λ r. ⌜ r ≡ still window ⌝ }
+// An answer with nothing fetched.
+fn still(window: Window, answer: DoneAnswer) -> Reached
+    ensures { λ r. ⌜ r ≡ still window answer ⌝ }
 {
     let reader = window.reader;
     let fetched = window.fetched;
     Reached {
-        answer: DoneAnswer::Done,
+        answer,
         reader,
         fetched,
     }

@@ -15,9 +15,10 @@ use Rattle.refusals.specs.Refusals.{number-of}
 use Rattle.token_record.specs.Record.{Call, next-token, peek-token, Answer, done, refused, Reply, reply, wants}
 use Rattle.window.specs.declared.Window.{Window}
 use Rattle.window.specs.declared.DoneGiven.{DoneGiven}
-use Rattle.window.specs.Window.{State, state, kept, sound, fetch, look, past, with-window, answered, step, done-told, done-reply}
+use Rattle.window.specs.Window.{State, state, kept, sound, fetch, look, past, read-on, with-window, answered, step, done-told, done-reply}
 use Rattle.window.specs.SoundLaws.{Fit, fit}
-use Rattle.window_reaching.specs.Reaching.{reach}
+use Rattle.window_reaching.specs.declared.Reached.{Reached}
+use Rattle.window_reaching.specs.Reaching.{reach, reached}
 use Rattle.window_reading.specs.Proceeding.{proceed}
 
 module _ (src : List ℕ) (s : State) where
@@ -59,6 +60,14 @@ module _ (src : List ℕ) (s : State) where
     reached-low d =
         let told : reach src n s .answer ≡ done = sym (ap (λ (y : Reply State). y .answer) q) ∙ ap done-told d in
         rw (← q) at (reached-current n told)
+
+-- The code reads the window on to where its call came: what is given then.
+abbrev pub given : Reached → Window → DoneGiven
+given r v = record { answer = r .answer; window = v }
+
+pub read-there : (w v : Window) (r : Reached) (room : List ℕ) {y : Reply State} → v ≡ read-on (r .reader) (r .fetched .0) w
+    → done-reply (reached w r) room ≡ y → done-reply (given r v) room ≡ y
+read-there w v r room e q = ap (λ (u : Window). done-reply (given r u) room) e ∙ q
 
 -- What next and peek answer.
 module _ (s : State) where

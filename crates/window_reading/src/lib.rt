@@ -17,7 +17,7 @@ pub fn next_token(window: Window, src: &[u8], room: &mut [u32]) -> TokenGiven
 {
     let reached = window_reaching::reach(window, src, room, 0);
     let answer = reached.answer;
-    let after = reached.window;
+    let after = window.read_on(reached.reader, reached.fetched);
     match answer {
         DoneAnswer::Done => TokenGiven {
             answer: look(after.current, after.fetched, room, 0),
@@ -36,7 +36,7 @@ pub fn peek_token(window: Window, src: &[u8], room: &mut [u32], n: usize) -> Tok
 {
     let reached = window_reaching::reach(window, src, room, n);
     let answer = reached.answer;
-    let after = reached.window;
+    let after = window.read_on(reached.reader, reached.fetched);
     match answer {
         DoneAnswer::Done => TokenGiven {
             answer: look(after.current, after.fetched, room, n),
@@ -55,7 +55,7 @@ pub fn has_more(window: Window, src: &[u8], room: &mut [u32]) -> MoreGiven
 {
     let reached = window_reaching::reach(window, src, room, 0);
     let answer = reached.answer;
-    let after = reached.window;
+    let after = window.read_on(reached.reader, reached.fetched);
     match answer {
         DoneAnswer::Done => MoreGiven {
             answer: MoreAnswer::More(after.current.0 < after.fetched.0),

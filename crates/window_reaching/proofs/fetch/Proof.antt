@@ -8,7 +8,7 @@ use native.Mathlib.Omega.{arith}
 use Rattle.window.specs.Window.{state, kept, done-reply}
 use Rattle.window_tests.specs.TestLaws.{kept-in-order}
 use Rattle.window_reaching.specs.declared.Reached.{Reached}
-use Rattle.window_reaching.specs.Parts.{reached}
+use Rattle.window_reaching.specs.Reaching.{reached}
 use Rattle.window_reaching.specs.ReachingLaws.{reached-now, reached-by}
 use Rattle.window_reaching.proofs.fetch.Statement.{statement}
 use Rattle.window_reaching.proofs.fetch.Tie as tie
