@@ -23,7 +23,7 @@ fn spaces() -> [u8; 65536] {
 fn run(text: &[u8], far: &[u8]) {
     let mut at = 0;
     while at < text.len() {
-        let end = lines::line_end(text, at);
+        let end = lines::next_byte(text, at, b'\n');
         cases::run(&text[at..end], far);
         at = end + 1;
     }

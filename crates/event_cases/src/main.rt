@@ -35,7 +35,7 @@ fn run(text: &[u8], room: &mut [u32], opens: &mut [usize]) {
     let mut on = bench::new();
     let mut at = 0;
     while at < text.len() {
-        let end = lines::line_end(text, at);
+        let end = lines::next_byte(text, at, b'\n');
         on = bench::step(on, &text[at..end], room, opens);
         say::text(b"\n");
         at = end + 1;

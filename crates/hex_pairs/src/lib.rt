@@ -1,11 +1,35 @@
-// Bytes in hexadecimal: the one that two digits spell.
+// Bytes in hexadecimal: a pair of digits each.
 ghost use mathlib.Core.Path.{_≡_};
 ghost use lib.ListN.{drop};
-ghost use Rattle.hex_pairs.specs.Hex.{hex-value, byte-of, pair};
+ghost use Rattle.hex_pairs.specs.Hex.{hex-value, byte-of, pair, Decodes};
 use classes::is_dec;
 
+// What was decoded: how many bytes, and where their digits end in the text.
+pub struct Decoded {
+    pub len: usize,
+    pub end: usize,
+}
+
+// Decodes pairs of hexadecimal digits at the place into the front of `out`: as many as there are, and as there is room for.
+pub fn decode(text: &[u8], from: usize, out: &mut [u8]) -> Decoded
+    ensures { λ r. ⌜ Decodes (now (text .entry)) from (now (out .entry)) (now (out .exit)) (r .len) (r .end) ⌝ }
+{
+    let mut len: usize = 0;
+    let mut end = from;
+    while len < out.len() {
+        let byte = pair_at(text, end);
+        if byte > 255 {
+            return Decoded { len, end };
+        }
+        out[len] = byte as u8;
+        len += 1;
+        end += 2;
+    }
+    Decoded { len, end }
+}
+
 // The byte that two hexadecimal digits at the place spell; 256 where there are none.
-pub fn pair_at(text: &[u8], at: usize) -> u32
+fn pair_at(text: &[u8], at: usize) -> u32
     ensures { λ r. ⌜ r ≡ pair (drop at (now (text .entry))) ⌝ }
 {
     if text.len() <= at {

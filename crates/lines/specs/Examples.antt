@@ -1,5 +1,5 @@
--- Examples that pin the definitions: a call with numbers, one with none, an empty line, the greatest number, ends of lines, bytes in
--- hexadecimal. Each is computed by the definitions themselves. Assumes nothing.
+-- Examples that pin the definitions: a call with numbers, one with none, an empty line, the greatest number, ends of lines.
+-- Each is computed by the definitions themselves. Assumes nothing.
 use Prim.Native.Nat.{ℕ}
 use mathlib.Core.Path.{_≡_, refl}
 use mathlib.Core.List.{[], _∷_, map}
@@ -7,8 +7,7 @@ use Rattle.patterns.specs.Walk.{span}
 use Rattle.tokens.specs.Tokens.{ascii}
 use Rattle.decimals.specs.Decimals.{greatest}
 use Rattle.lines.specs.declared.Asked.{Asked}
-use Rattle.lines.specs.Lines.{line-end, asked}
-use Rattle.lines.specs.Hex.{decoded}
+use Rattle.lines.specs.Lines.{lf, next-byte, asked}
 
 abbrev asks : ℕ → ℕ → ℕ → ℕ → Asked
 asks l a b c = record { letter = l; first = a; second = b; third = c }
@@ -25,12 +24,6 @@ empty : asked [] ≡ asks 0 0 0 0
 unfolding asked
 empty = refl
 
-ends : map (line-end (ascii "ab\nc")) (0 ∷ 2 ∷ 3 ∷ 4 ∷ 9 ∷ []) ≡ 2 ∷ 2 ∷ 4 ∷ 4 ∷ 9 ∷ []
+ends : map (λ (from : ℕ). next-byte (ascii "ab\nc") from lf) (0 ∷ 2 ∷ 3 ∷ 4 ∷ 9 ∷ []) ≡ 2 ∷ 2 ∷ 4 ∷ 4 ∷ 9 ∷ []
 unfolding span
 ends = refl
-
--- a pair that is cut off and one with another byte end it, and so does the room
-in-hex : decoded 4 (ascii "0aff7") ∷ decoded 4 (ascii "90gf") ∷ decoded 1 (ascii "0aff") ∷ decoded 2 (ascii "FF") ∷ []
-    ≡ (10 ∷ 255 ∷ []) ∷ (144 ∷ []) ∷ (10 ∷ []) ∷ [] ∷ []
-unfolding decoded
-in-hex = refl

@@ -1,6 +1,4 @@
--- What is read from a text of lines (Lines, Hex), its laws, and computed examples.
+-- What is read from a text of lines (Lines), its laws, and computed examples.
 pub mod Lines
-pub mod Hex
 pub mod LineLaws
-pub mod HexLaws
 pub mod Examples

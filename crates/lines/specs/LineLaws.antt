@@ -1,4 +1,4 @@
--- A line's end lies within the text; and what a line asks for, from space to space.
+-- The next byte's place lies within the text; and what a line asks for, from space to space.
 -- By the laws of runs, and one look at the front of the rest. Assumes nothing.
 use Prim.Native.Nat.{ℕ, suc, _+_, _-_, _≤_, _<_}
 use mathlib.Core.Path.{_≡_, refl, ap, sym, _∙_}
@@ -26,11 +26,6 @@ pub next-behind : (text : List ℕ) (at b : ℕ) {r : ℕ} → r ≡ next-byte t
 next-behind text at b e h =
     by-test (leb (at + 1) (length text)) (λ t. omega (arith, next-within text (at + 1) b e (leb-true (at + 1) (length text) t)))
     (λ t. let l : length text ≤ at + 1 = omega (arith, leb-false (at + 1) (length text) t) in omega (arith, e, span-over (other-than b) text (at + 1) l))
-
--- an empty line has no first byte
-pub none-first : (line : List ℕ) → length line ≡ 0 → 0 ≡ getD line 0 0
-none-first [] e = refl
-none-first (b ∷ bs) e = absurd (omega (arith, e))
 
 -- what stands behind the next space, and the number there
 module _ (line : List ℕ) (from : ℕ) {at : ℕ} (e : at ≡ next-byte line from space) where

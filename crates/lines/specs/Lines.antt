@@ -1,5 +1,5 @@
--- A text of lines: where a byte comes next, where a line ends, and what a line asks for, which is its first letter and the numbers behind
--- its first three spaces. Assumes nothing.
+-- A text of lines: where a byte comes next, as the LF that ends a line, and what a line asks for, which is its first letter and the
+-- numbers behind its first three spaces. Assumes nothing.
 use Prim.Native.Nat.{ℕ, suc, _+_}
 use mathlib.Core.Bool.{Bool, not}
 use mathlib.Core.List.{List}
@@ -19,9 +19,6 @@ other-than b x = not (eqb x b)
 -- The place of the next byte b from a place on: behind the run of other bytes there. Past the text there are none, and it is the place.
 abbrev pub next-byte : List ℕ → ℕ → ℕ → ℕ
 next-byte text from b = from + span (other-than b) (drop from text)
-
-abbrev pub line-end : List ℕ → ℕ → ℕ
-line-end text from = next-byte text from lf
 
 -- What stands behind the first space.
 unfoldable pub behind-space : List ℕ → List ℕ

@@ -198,7 +198,7 @@ fn replay_on(text: &[u8], at: usize, src: &[u8]) -> Outcome {
 // Replays the record at the place. A last line with no LF was cut off, and is none.
 fn replay_record(text: &[u8], at: usize) -> Outcome {
     let mut src = io::buffer();
-    let source = lines::decode(text, at, &mut src);
+    let source = hex_pairs::decode(text, at, &mut src);
     let len = source.len;
     if len > 4096 {
         return no_record();
@@ -244,7 +244,7 @@ fn replay_lines(text: &[u8]) -> Tally {
     };
     let mut at = 0;
     while at < text.len() {
-        let end = lines::line_end(text, at);
+        let end = lines::next_byte(text, at, b'\n');
         tally = counted(tally, replay_record(text, at));
         at = end + 1;
     }

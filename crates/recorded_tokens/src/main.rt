@@ -139,7 +139,7 @@ fn is_answered(text: &[u8], at: usize, src: &[u8]) -> bool {
 // Whether the text has a record at the place, and the scanner answers what it has. A last line with no LF was cut off, and is none.
 fn is_right(text: &[u8], at: usize) -> bool {
     let mut src = io::buffer();
-    let source = lines::decode(text, at, &mut src);
+    let source = hex_pairs::decode(text, at, &mut src);
     let len = source.len;
     if len > 4096 {
         return false;
@@ -178,7 +178,7 @@ fn replay_lines(text: &[u8]) -> Tally {
     };
     let mut at = 0;
     while at < text.len() {
-        let end = lines::line_end(text, at);
+        let end = lines::next_byte(text, at, b'\n');
         tally = counted(tally, is_right(text, at));
         at = end + 1;
     }

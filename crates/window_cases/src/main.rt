@@ -48,7 +48,7 @@ fn run(text: &[u8], n: usize, room: &mut [u32])
     };
     let mut at = 0;
     while at < n {
-        let end = lines::line_end(text, at);
+        let end = lines::next_byte(text, at, b'\n');
         let next = end + 1;
         let line = &text[at..end];
         say::text(line);

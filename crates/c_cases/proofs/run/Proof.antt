@@ -16,15 +16,15 @@ abbrev μ-loop : tie.MeasureT-loop
 μ-loop text far at₀ at = length text - at
 
 -- a line that starts within the text ends within it
-end-within : (c : tie.After-line-end Inv-loop μ-loop)
-    → c .line-end .result ≤ length (c .before .before .before .before .before .args .text .now)
-end-within c = next-within _ _ lf (c .line-end .ensures) (omega arith)
+end-within : (c : tie.After-next-byte Inv-loop μ-loop)
+    → c .next-byte .result ≤ length (c .before .before .before .before .before .args .text .now)
+end-within c = next-within _ _ lf (c .next-byte .ensures) (omega arith)
 
 loop-holds : tie.Need-loop-holds Inv-loop μ-loop
 loop-holds c = search needs
 
-line-end-requires : tie.Need-line-end-requires Inv-loop μ-loop
-line-end-requires c κs = search needs
+next-byte-requires : tie.Need-next-byte-requires Inv-loop μ-loop
+next-byte-requires c κs = search needs
 
 sub-run : tie.Need-sub-run Inv-loop μ-loop
 sub-run c = search needs
@@ -57,7 +57,7 @@ run-spec =
     Inv-loop
     μ-loop
     loop-holds
-    line-end-requires
+    next-byte-requires
     sub-run
     part-run-start
     part-run-end

@@ -17,11 +17,11 @@ abbrev μ-loop : tie.MeasureT-loop
 μ-loop text room₀ opens₀ on₀ at₀ _ room opens on at = length text - at
 
 -- a line that starts within the text ends within it, and the place behind its end is a number of 64 bits
-end-within : (c : tie.After-line-end Inv-loop μ-loop)
-    → c .line-end .result ≤ length (c .before .before .before .before .before .before .before .args .text .now)
-end-within c = next-within _ _ lf (c .line-end .ensures) (omega arith)
+end-within : (c : tie.After-next-byte Inv-loop μ-loop)
+    → c .next-byte .result ≤ length (c .before .before .before .before .before .before .before .args .text .now)
+end-within c = next-within _ _ lf (c .next-byte .ensures) (omega arith)
 
-end-fits : (c : tie.After-line-end Inv-loop μ-loop) → c .line-end .result < 18446744073709551615
+end-fits : (c : tie.After-next-byte Inv-loop μ-loop) → c .next-byte .result < 18446744073709551615
 end-fits c = omega (arith, end-within c)
 
 new-requires : tie.Need-new-requires Inv-loop μ-loop
@@ -30,8 +30,8 @@ new-requires c κs = search needs
 loop-holds : tie.Need-loop-holds Inv-loop μ-loop
 loop-holds c = search needs
 
-line-end-requires : tie.Need-line-end-requires Inv-loop μ-loop
-line-end-requires c κs = search needs
+next-byte-requires : tie.Need-next-byte-requires Inv-loop μ-loop
+next-byte-requires c κs = search needs
 
 sub-step : tie.Need-sub-step Inv-loop μ-loop
 sub-step c = search needs
@@ -77,7 +77,7 @@ run-spec =
     μ-loop
     new-requires
     loop-holds
-    line-end-requires
+    next-byte-requires
     sub-step
     part-step-start
     part-step-end

@@ -23,7 +23,7 @@ returns : tie.Need-returns
 returns c =
     let at-third = c .before .before .before .before in
     asked-by _ (at-third .before .before .next-byte .ensures) (at-third .before .next-byte2 .ensures) (at-third .next-byte3 .ensures)
-    (c .before .before .before .letter .ensures) (c .before .before .number-behind .ensures) (c .before .number-behind2 .ensures)
+    (c .before .before .before .byte-at .ensures .is) (c .before .before .number-behind .ensures) (c .before .number-behind2 .ensures)
     (c .number-behind3 .ensures)
 
 pub ask-spec : {M : Type 1} → statement M

@@ -18,8 +18,8 @@ abbrev μ-loop : tie.MeasureT-loop
 loop-holds : tie.Need-loop-holds Inv-loop μ-loop
 loop-holds c = search needs
 
-line-end-requires : tie.Need-line-end-requires Inv-loop μ-loop
-line-end-requires c κs = search needs
+next-byte-requires : tie.Need-next-byte-requires Inv-loop μ-loop
+next-byte-requires c κs = search needs
 
 is-right-requires : tie.Need-is-right-requires Inv-loop μ-loop
 is-right-requires c κs = search needs
@@ -28,7 +28,7 @@ counted-requires : tie.Need-counted-requires Inv-loop μ-loop
 counted-requires c κs = search needs
 
 add-at : tie.Need-add-at Inv-loop μ-loop
-add-at c = omega (arith, next-within _ _ lf (c .before .before .line-end .ensures) (omega arith))
+add-at c = omega (arith, next-within _ _ lf (c .before .before .next-byte .ensures) (omega arith))
 
 loop-less : tie.Need-loop-less Inv-loop μ-loop
 loop-less c = search needs
@@ -46,7 +46,7 @@ replay-lines-spec =
     Inv-loop
     μ-loop
     loop-holds
-    line-end-requires
+    next-byte-requires
     is-right-requires
     counted-requires
     add-at

@@ -17,8 +17,8 @@ abbrev μ-loop : tie.MeasureT-loop
 μ-loop text n room₀ window₀ lent₀ at₀ _ room window lent at = n - at
 
 -- a line that starts within the text ends within it
-end-within : (c : tie.After-line-end Inv-loop μ-loop) → c .line-end .result ≤ length (c .before .before .before .before .before .before .args .text .now)
-end-within c = next-within _ _ lf (c .line-end .ensures) (omega arith)
+end-within : (c : tie.After-next-byte Inv-loop μ-loop) → c .next-byte .result ≤ length (c .before .before .before .before .before .before .args .text .now)
+end-within c = next-within _ _ lf (c .next-byte .ensures) (omega arith)
 
 unopened-requires : tie.Need-unopened-requires Inv-loop μ-loop
 unopened-requires c κs = search needs
@@ -26,8 +26,8 @@ unopened-requires c κs = search needs
 loop-holds : tie.Need-loop-holds Inv-loop μ-loop
 loop-holds c = search needs
 
-line-end-requires : tie.Need-line-end-requires Inv-loop μ-loop
-line-end-requires c κs = search needs
+next-byte-requires : tie.Need-next-byte-requires Inv-loop μ-loop
+next-byte-requires c κs = search needs
 
 add-next : tie.Need-add-next Inv-loop μ-loop
 add-next c = omega (arith, end-within c)
@@ -79,7 +79,7 @@ run-spec =
     μ-loop
     unopened-requires
     loop-holds
-    line-end-requires
+    next-byte-requires
     add-next
     sub-line
     part-line-start

@@ -1,14 +1,14 @@
--- `lines::decode` meets its contract. The loop's invariant: `len` bytes were decoded, up to `end`, and the rest decodes as it did.
+-- `hex_pairs::decode` meets its contract. The loop's invariant: `len` bytes were decoded, up to `end`, and the rest decodes as it did.
 -- The measure is what is left of the room. Assumes nothing.
 use Prim.Native.Nat.{_-_, _≤_}
 use native.Mathlib.Omega.{arith}
 use lib.ListN.{length, drop}
 use borrow.Author.Needs.{needs}
 use Rattle.hex_pairs.specs.Hex.{pair}
 use Rattle.hex_pairs.specs.HexLaws.{pair-inside}
-use Rattle.lines.specs.HexLaws.{Decoding, decoding-start, decoding-on, decoding-stops, decoding-over}
-use Rattle.lines.proofs.decode.Statement.{statement}
-use Rattle.lines.proofs.decode.Tie as tie
+use Rattle.hex_pairs.specs.DecodingLaws.{Decoding, decoding-start, decoding-on, decoding-stops, decoding-over}
+use Rattle.hex_pairs.proofs.decode.Statement.{statement}
+use Rattle.hex_pairs.proofs.decode.Tie as tie
 
 abbrev Inv-loop : tie.InvT-loop
 Inv-loop text from out₀ len₀ end₀ out len end = Decoding text from out₀ out len end

@@ -9,8 +9,7 @@ use native.Mathlib.Nat.{sub-zero}
 use lib.ListN.{length, set, take, drop, length-set, take-append-drop}
 use lib.Seq.{drop-drop, drop-set-lt, take-suc-set, length-take-le}
 use borrow.Author.Tests.{le-leb, lt-leb}
-use Rattle.hex_pairs.specs.Hex.{pair}
-use Rattle.lines.specs.Hex.{decoded, Decodes}
+use Rattle.hex_pairs.specs.Hex.{pair, decoded, Decodes}
 
 -- the rest's first byte, and its end
 decoded-more : (n : ℕ) (xs : List ℕ) → pair xs ≤ 255 → decoded (suc n) xs ≡ pair xs ∷ decoded n (drop 2 xs)
