@@ -1,4 +1,4 @@
-// Replays recorded answers of the Rust's tokenizer, and counts the sources on which the scanner answers otherwise.
+// Replays recorded answers of the Rust's tokenizer, and counts the sources on which the scanner, through a token source, answers otherwise.
 //
 // A record is a line: the source in hexadecimal, the number of the mode, and for each token two numbers, its kind and its end. It stops at
 // the first INVALID_UTF8 or UNKNOWN, of which it has the kind and the start. A space stands before each number; include/rattle.h says which
@@ -82,12 +82,14 @@ fn compare_token(text: &[u8], at: usize, token: Token, next: Reader) -> Step {
     }
 }
 
-// Holds what the reader answers against the text at the place. A token starts where the reader stands.
+// Holds what the source answers where the reader stands against the text at the place. A token starts there.
 fn compare_next(text: &[u8], at: usize, src: &[u8], reader: Reader) -> Step {
-    match reader.scan(src) {
+    let place = reader.place;
+    let mode = reader.mode;
+    match source::next_at(src, place, mode) {
         Scan::End => Step::Over(is_line_end(text, at)),
         Scan::Found(token, next) => {
-            if token.start.0 == reader.place.0 {
+            if token.start.0 == place.0 {
                 compare_token(text, at, token, next)
             } else {
                 Step::Over(false)
