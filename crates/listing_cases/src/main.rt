@@ -1,6 +1,6 @@
-// Runs listings with just enough room, and with one byte less, which is left as it was; the file stdout has what document 01 says.
+// Runs listings, through the C function, with just enough room, and with one byte less, which is left as it was; the file stdout has what
+// document 01 says.
 use libc::STDOUT_FILENO;
-use listing_text::Listed;
 
 // A source of the greatest length, whose tokens have one byte each.
 fn row() -> [u8; 65535] {
@@ -31,15 +31,14 @@ fn say_number(n: usize) {
 fn report(src: &[u8], out: &mut [u8]) {
     say(b"room ");
     say_number(out.len());
-    match listing_text::list(src, out) {
-        Listed::Written(n) => {
-            say(b": written ");
-            say_number(n);
-        }
-        Listed::Refused(refusal) => {
-            say(b": refused ");
-            say_number(refusals::number(refusal) as usize);
-        }
+    let mut len = 0;
+    let refusal = c_listing::rattle_listing(src, out, &mut len);
+    if refusal == 0 {
+        say(b": written ");
+        say_number(len);
+    } else {
+        say(b": refused ");
+        say_number(refusal as usize);
     }
     say(b"\n");
 }
