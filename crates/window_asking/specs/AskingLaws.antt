@@ -1,7 +1,7 @@
 -- Which call a number is; that a call's reply, its answer told as numbers, is what the code gives; and that two results that satisfy this
 -- promise are equal, with every lent number. Assumes nothing.
 use Prim.Native.Nat.{ℕ, _<_, _≤_}
-use mathlib.Core.Path.{_≡_, refl, sym, ap, _∙_}
+use mathlib.Core.Path.{_≡_, refl, sym, _∙_}
 use mathlib.Core.List.{List}
 use native.Mathlib.Omega.{arith}
 use borrow.Author.Tests.{leb-true, leb-false}

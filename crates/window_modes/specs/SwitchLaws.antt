@@ -11,7 +11,7 @@ use Rattle.refusals.specs.declared.DoneAnswer.the-variants as of-done
 use Rattle.refusals.specs.declared.Refusal.the-variants.{NotAsOpened}
 use Rattle.scanner.specs.declared.Reader.{Reader}
 use Rattle.scanner.specs.Reading.{entered}
-use Rattle.token_record.specs.Record.{Call, token, done, refused, reply, wants}
+use Rattle.token_record.specs.Record.{Call, done, reply, wants}
 use Rattle.window.specs.declared.Window.{Window}
 use Rattle.window.specs.declared.DoneGiven.{DoneGiven}
 use Rattle.window.specs.Window.{State, sound, read-on, switched, with-window, answered, step, done-reply}

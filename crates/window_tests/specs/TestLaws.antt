@@ -14,7 +14,7 @@ use Rattle.token_room.specs.Room.{slots-in}
 use Rattle.bookmarks.specs.Bookmarks.{unused-place, held, low-of}
 use Rattle.bookmarks.specs.HeldLaws.{held-facts, low-least}
 use Rattle.window.specs.declared.Window.{Window}
-use Rattle.window.specs.Window.{kept, tests, sound}
+use Rattle.window.specs.Window.{kept, sound}
 
 -- How many tokens are kept where the first bookmark is the least; and it is, in order.
 abbrev pub kept-behind-first : Window → ℕ

@@ -1,6 +1,6 @@
 -- `numbers::base_at` meets its contract: it takes the tests of the definition one after the other.
 -- Assumes nothing.
-use mathlib.Core.Path.{refl, sym, _∙_}
+use mathlib.Core.Path.{refl, _∙_}
 use native.Mathlib.Omega.{arith}
 use borrow.Author.Needs.{needs}
 use Rattle.numbers.specs.Laws.{base-is}

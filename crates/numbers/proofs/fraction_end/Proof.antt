@@ -1,6 +1,6 @@
 -- `numbers::fraction_end` meets its contract: after the dot a run is left, of one byte or more.
 -- Assumes nothing.
-use mathlib.Core.Path.{sym, _∙_}
+use mathlib.Core.Path.{_∙_}
 use native.Mathlib.Omega.{arith}
 use borrow.Author.Needs.{needs}
 use Rattle.numbers.specs.Parts.{run}

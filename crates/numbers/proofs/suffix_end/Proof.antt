@@ -1,7 +1,7 @@
 -- `numbers::suffix_end` meets its contract: after a K or an M the other letter of the suffix is left, and nothing can follow that.
 -- Assumes nothing.
 use Prim.Native.Nat.{_+_, _<_}
-use mathlib.Core.Path.{sym, _∙_}
+use mathlib.Core.Path.{_∙_}
 use mathlib.Core.Logic.{inl, inr, ⊎-elim}
 use native.Mathlib.Omega.{arith}
 use lib.ListN.{length}
