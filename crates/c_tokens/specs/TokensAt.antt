@@ -11,7 +11,7 @@ use Rattle.tokens.specs.declared.Mode.{Mode}
 use Rattle.tokens.specs.declared.Mode.the-variants.{Normal, HexPattern, HexJump}
 use Rattle.tokens.specs.Tokens.{ascii, tables-1}
 use Rattle.tokens.specs.Scan.{list-from}
-use Rattle.scanner.specs.Reading.{source-limit}
+use Rattle.reader.specs.Reading.{source-limit}
 use Rattle.token_room.specs.Room.{slots-in, write-all}
 use Rattle.c_answers.specs.Answers.{Lent, lent}
 

@@ -3,12 +3,12 @@ ghost use Prim.Native.Nat.{_≤_};
 ghost use mathlib.Core.Path.{_≡_};
 ghost use lib.ListN.{length};
 ghost use Rattle.refusals.specs.Calls.{reply};
-ghost use Rattle.scanner.specs.Reading.{source-limit};
+ghost use Rattle.reader.specs.Reading.{source-limit};
 ghost use Rattle.c_answers.specs.Answers.{lent};
 ghost use Rattle.c_tokens.specs.TokensAt.{tokens-from, tokens-at};
 use fetching::Fetched;
+use reader::Reader;
 use refusals::Refusal;
-use scanner::Reader;
 use tokens::Mode;
 use tokens::Offset;
 use tokens::TokenIndex;
@@ -26,7 +26,7 @@ pub extern "C" fn rattle_tokens(
 ) -> u32
     ensures { λ r. ⌜ reply r (lent (now (out .exit)) (now (count .exit))) ≡ tokens-at (now (src .entry)) place mode (now (out .entry)) (now (count .entry)) ⌝ }
 {
-    if scanner::SOURCE_LIMIT < src.len() {
+    if reader::SOURCE_LIMIT < src.len() {
         return refusals::number(Refusal::SourceTooLong);
     }
     match mode {

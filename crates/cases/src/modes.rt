@@ -1,8 +1,8 @@
 // What is tried in each mode: forged readers, switches, an over-long source, and every source of one byte.
 use crate::lengths;
 use crate::say;
-use scanner::Reader;
-use scanner::Scan;
+use reader::Reader;
+use reader::Scan;
 use tokens::Mode;
 use tokens::Offset;
 
@@ -62,7 +62,7 @@ pub(crate) struct OneByte {
 
 // The byte at a place of a source, read by itself.
 pub(crate) fn one_byte(src: &[u8], at: u32, mode: Mode) -> OneByte {
-    let Scan::Found(token, next) = reader_at(at, mode).scan(src) else {
+    let Scan::Found(token, next) = scanner::scan(reader_at(at, mode), src) else {
         return OneByte { kind: 0, mode };
     };
     let end = token.end.0;

@@ -1,8 +1,8 @@
 // What the groups say on standard output.
 use libc::STDOUT_FILENO;
+use reader::Reader;
+use reader::Scan;
 use refusals::Refusal;
-use scanner::Reader;
-use scanner::Scan;
 use tokens::Mode;
 use tokens::Offset;
 use tokens::Token;
@@ -68,7 +68,7 @@ pub(crate) fn token(t: Token) {
 
 // What a reader answers that finds no token: none, where it stays as it is; or a refusal.
 fn ending(src: &[u8], reader: Reader) {
-    match reader.scan(src) {
+    match scanner::scan(reader, src) {
         Scan::Found(_, _) => text(b"more tokens than bytes"),
         Scan::End => {
             text(b"none, ");
@@ -88,7 +88,7 @@ fn read_through(src: &[u8], opened: Reader) -> Reading {
     };
     let mut tokens = 0;
     while tokens < src.len() {
-        let Scan::Found(found, next) = reader.scan(src) else {
+        let Scan::Found(found, next) = scanner::scan(reader, src) else {
             break;
         };
         last = found;

@@ -1,14 +1,14 @@
 // A token source in the reader's stead: no byte, places within, at and past the end, an over-long source, an ill-formed byte.
 use crate::lengths;
 use crate::say;
-use scanner::Scan;
+use reader::Scan;
 use tokens::Mode;
 use tokens::Offset;
 
 // What the source of these bytes answers at a place.
 fn asked(src: &[u8], place: u32, mode: Mode) {
     say::text(b"; ");
-    match source::next_at(src, Offset(place), mode) {
+    match source_reading::next_at(src, Offset(place), mode) {
         Scan::Found(token, reader) => {
             say::token(token);
             say::text(b", ");

@@ -8,7 +8,7 @@ use mathlib.Core.List.{List, [], _∷_}
 use lib.ListN.{length}
 use Rattle.patterns.specs.Bools.{by-test}
 use Rattle.refusals.specs.Calls.{run}
-use Rattle.scanner.specs.Reading.{source-limit}
+use Rattle.reader.specs.Reading.{source-limit}
 use Rattle.token_record.specs.Record.{Call, Answer, refused, Record, opened, whole, outnumbers, bounded}
 use Rattle.token_room.specs.Room.{slots-in}
 use Rattle.window.specs.Window.{start, step}

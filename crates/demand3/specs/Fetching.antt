@@ -11,9 +11,9 @@ use borrow.Author.Tests.{ltb-false, leb-false}
 use Rattle.patterns.specs.Bools.{by-test}
 use Rattle.tokens.specs.declared.Token.{Token}
 use Rattle.tokens.specs.Scan.{ends}
-use Rattle.scanner.specs.declared.Reader.{Reader}
-use Rattle.scanner.specs.Reading.{Ahead, ahead}
-use Rattle.scanner.specs.Following.{Sound, ahead-count, ahead-far, ahead-sound}
+use Rattle.reader.specs.declared.Reader.{Reader}
+use Rattle.reader.specs.Reading.{Ahead, ahead}
+use Rattle.reader.specs.Following.{Sound, ahead-count, ahead-far, ahead-sound}
 use Rattle.token_record.specs.Record.{Call, Record, wants, kept, fetch, outnumbers}
 use Rattle.token_room.specs.Room.{slots-in}
 use Rattle.window.specs.Window as of-window

@@ -6,7 +6,7 @@ use mathlib.Core.List.{List, [], _∷_}
 use lib.ListN.{length}
 use Rattle.patterns.specs.Bools.{by-test}
 use Rattle.refusals.specs.Calls.{run, after-all}
-use Rattle.scanner.specs.Reading.{source-limit}
+use Rattle.reader.specs.Reading.{source-limit}
 use Rattle.token_record.specs.Record.{Call, Answer, Record, opened, wants, fetch, outnumbers, bounded, whole}
 use Rattle.token_room.specs.Room.{slots-in, write-all}
 use Rattle.window.specs.Window.{start, step}

@@ -7,8 +7,8 @@ use mathlib.Core.List.{List}
 use native.Mathlib.Omega.{arith}
 use lib.ListN.{length}
 use Rattle.tokens.specs.Scan.{ends}
-use Rattle.scanner.specs.declared.Reader.{Reader}
-use Rattle.scanner.specs.Reading.{source-limit}
+use Rattle.reader.specs.declared.Reader.{Reader}
+use Rattle.reader.specs.Reading.{source-limit}
 use Rattle.token_record.specs.Record.{Reply, reply, Record, opened, kept, bookmark-limit}
 use Rattle.token_room.specs.Room.{slots-in, nth, write-all}
 use Rattle.bookmarks.specs.Bookmarks.{padded}

@@ -7,8 +7,8 @@ use lib.ListN.{length}
 use lib.Dec.{leb}
 use Rattle.tokens.specs.declared.TokenIndex.{TokenIndex}
 use Rattle.refusals.specs.Refusals.{named}
-use Rattle.scanner.specs.declared.Reader.{Reader}
-use Rattle.scanner.specs.Reading.{sound, Ahead, ahead}
+use Rattle.reader.specs.declared.Reader.{Reader}
+use Rattle.reader.specs.Reading.{sound, Ahead, ahead}
 use Rattle.token_room.specs.Room.{nth, write-all}
 use Rattle.fetching.specs.declared.Stored.{Stored}
 use Rattle.fetching.specs.declared.Fetched.{Fetched}

@@ -13,10 +13,10 @@ use Rattle.patterns.specs.Determined.{Once, once}
 use Rattle.tokens.specs.declared.Token.{Token}
 use Rattle.tokens.specs.declared.TokenIndex.{TokenIndex}
 use Rattle.refusals.specs.declared.Refusal.the-variants.{WindowFull, NotAsOpened}
-use Rattle.scanner.specs.declared.Reader.{Reader}
-use Rattle.scanner.specs.declared.Scan.the-variants.{End}
-use Rattle.scanner.specs.Reading.{source-limit, sound, Ahead, ahead}
-use Rattle.scanner.specs.Following.{Sound, Onward, Says, rest, still, ahead-none, ahead-end, ahead-more, ahead-count, rest-end, rest-more, rest-most}
+use Rattle.reader.specs.declared.Reader.{Reader}
+use Rattle.reader.specs.declared.Scan.the-variants.{End}
+use Rattle.reader.specs.Reading.{source-limit, sound, Ahead, ahead}
+use Rattle.reader.specs.Following.{Sound, Onward, Says, rest, still, ahead-none, ahead-end, ahead-more, ahead-count, rest-end, rest-more, rest-most}
 use Rattle.token_room.specs.Room.{nth, write, write-all}
 use Rattle.token_room.specs.RoomLaws.{length-write}
 use Rattle.fetching.specs.declared.Stored.{Stored}

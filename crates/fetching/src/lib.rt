@@ -4,13 +4,13 @@ ghost use mathlib.Core.Path.{_≡_};
 ghost use mathlib.Core.Bool.{_&&_};
 ghost use lib.ListN.{length};
 ghost use lib.Dec.{leb, ltb};
-ghost use Rattle.scanner.specs.Reading.{sound, ahead};
-ghost use Rattle.scanner.specs.Following.{Sound, rest};
+ghost use Rattle.reader.specs.Reading.{sound, ahead};
+ghost use Rattle.reader.specs.Following.{Sound, rest};
 ghost use Rattle.token_room.specs.Room.{write-all};
 ghost use Rattle.fetching.specs.Fetching.{outcome, fetched, stored};
+use reader::Reader;
+use reader::Scan;
 use refusals::Refusal;
-use scanner::Reader;
-use scanner::Scan;
 use tokens::TokenIndex;
 
 // What fetching answers: the reader behind the tokens, and the index that comes next; or a refusal.
@@ -56,7 +56,7 @@ fn is_sound(src: &[u8], reader: Reader, first: TokenIndex) -> bool
     ensures { λ r. ⌜ r ≡ (sound (now (src .entry)) reader && leb (first .0) (reader .place .0)) ⌝ }
 {
     let place = reader.place.0;
-    if scanner::SOURCE_LIMIT < src.len() {
+    if reader::SOURCE_LIMIT < src.len() {
         return false;
     }
     if src.len() < place as usize {
@@ -87,13 +87,13 @@ fn has_more_than(src: &[u8], reader: Reader, n: usize) -> bool
     let mut at = reader;
     let mut left = n;
     while 0 < left {
-        let Scan::Found(_, next) = at.scan(src) else {
+        let Scan::Found(_, next) = scanner::scan(at, src) else {
             return false;
         };
         at = next;
         left -= 1;
     }
-    match at.scan(src) {
+    match scanner::scan(at, src) {
         Scan::Found(_, _) => true,
         _ => false,
     }
@@ -108,7 +108,7 @@ fn store(src: &[u8], reader: Reader, room: &mut [u32], first: TokenIndex, need: 
     let mut index = first.0;
     let mut left = need;
     while 0 < left {
-        let Scan::Found(token, next) = at.scan(src) else {
+        let Scan::Found(token, next) = scanner::scan(at, src) else {
             return Stored {
                 reader: at,
                 next: TokenIndex(index),

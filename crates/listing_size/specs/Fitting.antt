@@ -13,11 +13,11 @@ use Rattle.refusals.specs.Refusals.{named}
 use Rattle.tokens.specs.declared.Mode.the-variants.{Normal}
 use Rattle.tokens.specs.Tokens.{ascii}
 use Rattle.tokens.specs.Scan.{list-from}
-use Rattle.scanner.specs.declared.Reader.{Reader}
-use Rattle.scanner.specs.declared.Opened.{Opened}
-use Rattle.scanner.specs.declared.Opened.the-variants.{Ready, Refused}
-use Rattle.scanner.specs.Reading.{source-limit, open-of}
-use Rattle.scanner.specs.Following.{Sound, rest}
+use Rattle.reader.specs.declared.Reader.{Reader}
+use Rattle.reader.specs.declared.Opened.{Opened}
+use Rattle.reader.specs.declared.Opened.the-variants.{Ready, Refused}
+use Rattle.reader.specs.Reading.{source-limit, open-of}
+use Rattle.reader.specs.Following.{Sound, rest}
 use Rattle.listing_form.specs.Listing.{text}
 
 -- what was opened stays so if the listing of the tokens from the reader on fits

@@ -17,9 +17,9 @@ use Rattle.tokens.specs.Tokens.{tables-1}
 use Rattle.tokens.specs.Scan.{scan, list-from}
 use Rattle.tokens.specs.ScanLaws.{Step, scan-found, scan-kind, kinds-1}
 use Rattle.tokens.specs.ListLaws.{first-all}
-use Rattle.scanner.specs.declared.Reader.{Reader}
-use Rattle.scanner.specs.Reading.{source-limit}
-use Rattle.scanner.specs.Following.{Sound, rest, rest-most}
+use Rattle.reader.specs.declared.Reader.{Reader}
+use Rattle.reader.specs.Reading.{source-limit}
+use Rattle.reader.specs.Following.{Sound, rest, rest-most}
 use Rattle.listing_form.specs.Listing.{line, lines, text}
 use Rattle.listing_form.specs.Numbers.{decimal-short, length-line, length-head, length-lines, length-text}
 

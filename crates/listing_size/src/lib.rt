@@ -3,14 +3,14 @@ ghost use Prim.Native.Nat.{_≤_};
 ghost use mathlib.Core.Path.{_≡_};
 ghost use lib.ListN.{length};
 ghost use lib.Dec.{leb};
-ghost use Rattle.scanner.specs.Following.{Sound, rest};
+ghost use Rattle.reader.specs.Following.{Sound, rest};
 ghost use Rattle.listing_form.specs.Listing.{line, head, text};
 ghost use Rattle.listing_size.specs.Fitting.{fitting};
 use listing_form::number_len;
+use reader::Opened;
+use reader::Reader;
+use reader::Scan;
 use refusals::Refusal;
-use scanner::Opened;
-use scanner::Reader;
-use scanner::Scan;
 use tokens::Token;
 
 // Opens a source for a listing of at most `room` bytes: refused too where the listing is longer.
@@ -50,7 +50,7 @@ fn measure(src: &[u8], start: Reader) -> usize
     let mut bytes: usize = 0;
     let mut reader = start;
     loop {
-        let Scan::Found(token, next) = reader.scan(src) else {
+        let Scan::Found(token, next) = scanner::scan(reader, src) else {
             return head_len(tokens) + bytes;
         };
         tokens += 1;

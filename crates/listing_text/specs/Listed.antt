@@ -10,7 +10,7 @@ use Rattle.refusals.specs.Refusals.{named}
 use Rattle.tokens.specs.declared.Mode.the-variants.{Normal}
 use Rattle.tokens.specs.Tokens.{ascii, tables-1}
 use Rattle.tokens.specs.Scan.{list-from, tokens}
-use Rattle.scanner.specs.Reading.{source-limit}
+use Rattle.reader.specs.Reading.{source-limit}
 use Rattle.listing_text.specs.declared.Listed.{Listed}
 use Rattle.listing_text.specs.declared.Listed.the-variants.{Written, Refused}
 use Rattle.listing_form.specs.Listing.{text}

@@ -15,11 +15,11 @@ use Rattle.refusals.specs.declared.Refusal.the-variants.{SourceTooLong, NoRoom}
 use Rattle.tokens.specs.declared.Mode.the-variants.{Normal}
 use Rattle.tokens.specs.Tokens.{tables-1}
 use Rattle.tokens.specs.Scan.{tokens}
-use Rattle.scanner.specs.declared.Reader.{Reader}
-use Rattle.scanner.specs.declared.Opened.{Opened}
-use Rattle.scanner.specs.declared.Opened.the-variants as opened
-use Rattle.scanner.specs.Reading.{source-limit}
-use Rattle.scanner.specs.Following.{Sound, rest}
+use Rattle.reader.specs.declared.Reader.{Reader}
+use Rattle.reader.specs.declared.Opened.{Opened}
+use Rattle.reader.specs.declared.Opened.the-variants as opened
+use Rattle.reader.specs.Reading.{source-limit}
+use Rattle.reader.specs.Following.{Sound, rest}
 use Rattle.listing_text.specs.declared.Listed.{Listed}
 use Rattle.listing_text.specs.declared.Listed.the-variants.{Written, Refused}
 use Rattle.listing_form.specs.Listing.{text}

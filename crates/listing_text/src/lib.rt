@@ -3,15 +3,15 @@ ghost use Prim.Native.Nat.{_+_, _≤_, _<_};
 ghost use mathlib.Core.Path.{_≡_};
 ghost use lib.ListN.{length};
 ghost use lib.Seq.{slice};
-ghost use Rattle.scanner.specs.Following.{Sound, rest};
+ghost use Rattle.reader.specs.Following.{Sound, rest};
 ghost use Rattle.listing_form.specs.Listing.{decimal, field, line, lines, head, text};
 ghost use Rattle.listing_form.specs.Put.{Wrote};
 ghost use Rattle.listing_text.specs.Listed.{outcome, listed};
 use listing_form::number_len;
+use reader::Opened;
+use reader::Reader;
+use reader::Scan;
 use refusals::Refusal;
-use scanner::Opened;
-use scanner::Reader;
-use scanner::Scan;
 use tokens::Token;
 
 // What listing answers: how many bytes the text has that stands at the front of what was lent; or a refusal.
@@ -62,7 +62,7 @@ fn put_lines(out: &mut [u8], at: usize, src: &[u8], start: Reader) -> Lines
     let mut behind = at;
     let mut reader = start;
     loop {
-        let Scan::Found(token, next) = reader.scan(src) else {
+        let Scan::Found(token, next) = scanner::scan(reader, src) else {
             return Lines { tokens, behind };
         };
         tokens += 1;

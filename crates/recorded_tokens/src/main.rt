@@ -7,9 +7,9 @@ use decimals::number_behind;
 use libc::STDERR_FILENO;
 use libc::STDIN_FILENO;
 use libc::STDOUT_FILENO;
-use scanner::Opened;
-use scanner::Reader;
-use scanner::Scan;
+use reader::Opened;
+use reader::Reader;
+use reader::Scan;
 use tokens::INVALID_UTF8;
 use tokens::Token;
 
@@ -86,7 +86,7 @@ fn compare_token(text: &[u8], at: usize, token: Token, next: Reader) -> Step {
 fn compare_next(text: &[u8], at: usize, src: &[u8], reader: Reader) -> Step {
     let place = reader.place;
     let mode = reader.mode;
-    match source::next_at(src, place, mode) {
+    match source_reading::next_at(src, place, mode) {
         Scan::End => Step::Over(is_line_end(text, at)),
         Scan::Found(token, next) => {
             if token.start.0 == place.0 {

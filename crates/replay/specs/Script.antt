@@ -8,7 +8,7 @@ use lib.Dec.{ltb}
 use Rattle.refusals.specs.Calls.{unless, run, after-all}
 use Rattle.scripts.specs.Scripts.{calls-from, calls-of, no-room, noted}
 use Rattle.tokens.specs.Tokens.{ascii}
-use Rattle.scanner.specs.Reading.{source-limit}
+use Rattle.reader.specs.Reading.{source-limit}
 use Rattle.token_record.specs.Record.{refused, done, Reply, reply, opened, bounded}
 use Rattle.token_room.specs.Room.{slots-in, write-all}
 use Rattle.window_asking.specs.Asking.{call-of, form}

@@ -1,99 +1,41 @@
 // The scanner: one token for each call, in three modes.
 ghost use mathlib.Core.Path.{_≡_};
-ghost use Rattle.tokens.specs.declared.Mode.the-variants.{HexPattern, HexJump};
-ghost use Rattle.scanner.specs.Reading.{open-of, scan-of, entered};
+ghost use Rattle.reader.specs.Reading.{scan-of};
+use reader::Reader;
+use reader::SOURCE_LIMIT;
+use reader::Scan;
 use refusals::Refusal;
-use tokens::Mode;
 use tokens::Offset;
 use tokens::Token;
 
-// The most bytes that a source may have.
-pub const SOURCE_LIMIT: usize = 65535;
-
-// Where scanning goes on, and in which mode.
-pub struct Reader {
-    pub place: Offset,
-    pub mode: Mode,
-}
-
-// What opening answers.
-pub enum Opened {
-    Ready(Reader),
-    Refused(Refusal),
-}
-
-// What a scan answers: no token, the source being at its end; a token, and the reader moved to its end; or a refusal.
-pub enum Scan {
-    End,
-    Found(Token, Reader),
-    Refused(Refusal),
-}
-
-impl Reader {
-    // A reader at the start of a source, in normal mode.
-    pub fn open(src: &[u8]) -> Opened
-        ensures { λ r. ⌜ r ≡ open-of (now (src .entry)) ⌝ }
-    {
-        if SOURCE_LIMIT < src.len() {
-            return Opened::Refused(Refusal::SourceTooLong);
-        }
-        Opened::Ready(Reader {
-            place: Offset(0),
-            mode: Mode::Normal,
-        })
-    }
-
-    // The token at the reader's place, and the reader that goes on.
-    pub fn scan(self, src: &[u8]) -> Scan
-        ensures { λ r. ⌜ r ≡ scan-of (now (src .entry)) self ⌝ }
-    {
-        if SOURCE_LIMIT < src.len() {
-            return Scan::Refused(Refusal::NotAsOpened);
-        }
-        let place = self.place;
-        let at = place.0 as usize;
-        if src.len() < at {
-            return Scan::Refused(Refusal::NotAsOpened);
-        }
-        if src.len() == at {
-            return Scan::End;
-        }
-        let mode = self.mode;
-        let choice = choosing::taken(mode, src, at);
-        let end = Offset((at + choice.len) as u32);
-        let reached = choice.mode;
-        Scan::Found(
-            Token {
-                kind: choice.kind,
-                start: place,
-                end,
-            },
-            Reader {
-                place: end,
-                mode: reached,
-            },
-        )
-    }
-
-    // Switches to the pattern mode, where the reader is.
-    pub fn enter_hex_pattern_mode(self) -> Reader
-        ensures { λ r. ⌜ r ≡ entered HexPattern self ⌝ }
-    {
-        in_mode(self, Mode::HexPattern)
-    }
-
-    // Switches to the jump mode, where the reader is.
-    pub fn enter_hex_jump_mode(self) -> Reader
-        ensures { λ r. ⌜ r ≡ entered HexJump self ⌝ }
-    {
-        in_mode(self, Mode::HexJump)
-    }
-}
-
-// The reader where it is, in another mode.
-fn in_mode(reader: Reader, mode: Mode) -> Reader
-    ensures { λ r. ⌜ r ≡ entered mode reader ⌝ }
+// The token at the reader's place, and the reader that goes on.
+pub fn scan(reader: Reader, src: &[u8]) -> Scan
+    ensures { λ r. ⌜ r ≡ scan-of (now (src .entry)) reader ⌝ }
 {
+    if SOURCE_LIMIT < src.len() {
+        return Scan::Refused(Refusal::NotAsOpened);
+    }
     let place = reader.place;
-    Reader { place, mode }
+    let at = place.0 as usize;
+    if src.len() < at {
+        return Scan::Refused(Refusal::NotAsOpened);
+    }
+    if src.len() == at {
+        return Scan::End;
+    }
+    let mode = reader.mode;
+    let choice = choosing::taken(mode, src, at);
+    let end = Offset((at + choice.len) as u32);
+    let reached = choice.mode;
+    Scan::Found(
+        Token {
+            kind: choice.kind,
+            start: place,
+            end,
+        },
+        Reader {
+            place: end,
+            mode: reached,
+        },
+    )
 }

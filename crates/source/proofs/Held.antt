@@ -1,4 +1,4 @@
--- What the walks of this crate share: a source seen as bytes beside a reader. Bytes, a `&[u8]`, are Copy and a reader is plain,
+-- What the walks of the calls of a source share: a source seen as bytes beside a reader. Bytes, a `&[u8]`, are Copy and a reader is plain,
 -- so what the bytes own is all that a source owns, whatever its reader is, and they are had as often as a walk needs them. Assumes nothing.
 use mathlib.Core.Path.{_≡_}
 use Prim.Native.Nat.{ℕ}
@@ -31,9 +31,9 @@ use Rattle.tokens.proofs.Offset as Offset
 use Rattle.tokens.proofs.Offset.Laws as Offset′
 use Rattle.tokens.proofs.Mode as Mode
 use Rattle.tokens.proofs.Mode.Laws as Mode′
-use Rattle.scanner.specs.declared.Reader.{Reader}
-use Rattle.scanner.proofs.Reader as R
-use Rattle.scanner.proofs.Reader.Laws as R′
+use Rattle.reader.specs.declared.Reader.{Reader}
+use Rattle.reader.proofs.Reader as R
+use Rattle.reader.proofs.Reader.Laws as R′
 use Rattle.source.specs.declared.Source.{Source}
 use Rattle.source.specs.Sources.{reader-of, source-at}
 use Rattle.source.proofs.Source as S

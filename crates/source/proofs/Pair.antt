@@ -26,9 +26,9 @@ use denote.Struct.Declared as SD
 use denote.Struct.Laws as LL
 use denote.Struct.Rest.{own-shut}
 use Rattle.walks.specs.Steps.{slice-ty, cell, room, at-local}
-use Rattle.scanner.specs.declared.Reader.{Reader}
-use Rattle.scanner.proofs.Reader as R
-use Rattle.scanner.proofs.Reader.Laws as R′
+use Rattle.reader.specs.declared.Reader.{Reader}
+use Rattle.reader.proofs.Reader as R
+use Rattle.reader.proofs.Reader.Laws as R′
 use Rattle.source.specs.Sources.{source-at}
 use Rattle.source.proofs.Source as S
 use Rattle.source.proofs.Source.Laws as S′

@@ -28,8 +28,8 @@ use Rattle.tokens.proofs.Offset as Offset
 use Rattle.tokens.proofs.Offset.Laws as Offset′
 use Rattle.tokens.proofs.Mode as Mode
 use Rattle.tokens.proofs.Mode.Laws as Mode′
-use Rattle.scanner.proofs.Reader as R
-use Rattle.scanner.proofs.Reader.Laws as R′
+use Rattle.reader.proofs.Reader as R
+use Rattle.reader.proofs.Reader.Laws as R′
 use Rattle.source.specs.declared.Source.{Source}
 use Rattle.source.specs.Sources.{reader-of}
 use Rattle.source.proofs.Source.Laws as S′

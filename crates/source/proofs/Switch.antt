@@ -26,10 +26,10 @@ use Rattle.walks.specs.Contracts.{Follows, answered, returned}
 use Rattle.tokens.specs.declared.Mode.{Mode}
 use Rattle.tokens.proofs.Offset.Laws as Offset′
 use Rattle.tokens.proofs.Mode.Laws as Mode′
-use Rattle.scanner.specs.Reading.{entered}
-use Rattle.scanner.proofs.Reader as R
-use Rattle.scanner.proofs.Reader.Laws as R′
-use Rattle.scanner.proofs.Reader.enter_hex_pattern_mode as core
+use Rattle.reader.specs.Reading.{entered}
+use Rattle.reader.proofs.Reader as R
+use Rattle.reader.proofs.Reader.Laws as R′
+use Rattle.reader.proofs.Reader.enter_hex_pattern_mode as core
 use Rattle.source.specs.declared.Source.{Source}
 use Rattle.source.specs.Sources.{reader-of, source-at, switched}
 use Rattle.source.proofs.Source.Laws as S′

@@ -1,13 +1,12 @@
 // A token source: it keeps the rule bytes that it was opened on, a place in them and a mode. Thin calls: each takes the struct apart and
-// hands slice, place and mode to the scanner. They are proved by walks of their code; `next_at` serves callers that want none.
+// hands its reader on. They are proved by walks of their code. The next token is asked for in crate source_reading.
 ghost use mathlib.Core.Path.{_≡_};
 ghost use Rattle.tokens.specs.declared.Mode.the-variants.{HexPattern, HexJump};
-ghost use Rattle.scanner.specs.Reading.{open-of, scan-of};
-ghost use Rattle.source.specs.Sources.{begun-by, stepped-by, opened-on, next-of, switched};
+ghost use Rattle.reader.specs.Reading.{open-of};
+ghost use Rattle.source.specs.Sources.{begun-by, opened-on, switched};
+use reader::Opened;
+use reader::Reader;
 use refusals::DoneAnswer;
-use scanner::Opened;
-use scanner::Reader;
-use scanner::Scan;
 use tokens::Mode;
 use tokens::Offset;
 
@@ -24,20 +23,9 @@ pub struct OpenGiven<'a> {
     pub source: Source<'a>,
 }
 
-// What a scan gives: its answer, and the source behind the token; where there is none, the source as it was.
-pub struct ScanGiven<'a> {
-    pub answer: Scan,
-    pub source: Source<'a>,
-}
-
 // The same with a reader in the source's stead, which plain functions can hold.
 struct Begun {
     answer: DoneAnswer,
-    reader: Reader,
-}
-
-struct Stepped {
-    answer: Scan,
     reader: Reader,
 }
 
@@ -52,26 +40,6 @@ pub fn open<'a>(src: &'a [u8]) -> OpenGiven<'a>
             src,
             place: begun.reader.place,
             mode: begun.reader.mode,
-        },
-    }
-}
-
-// The token at the source's place, and the source that goes on.
-pub fn next<'a>(source: Source<'a>) -> ScanGiven<'a>
-    ensures { λ r. ⌜ r ≡ next-of (source .entry) ⌝ }
-{
-    let src = source.src;
-    let reader = Reader {
-        place: source.place,
-        mode: source.mode,
-    };
-    let stepped = step(src, reader);
-    ScanGiven {
-        answer: stepped.answer,
-        source: Source {
-            src,
-            place: stepped.reader.place,
-            mode: stepped.reader.mode,
         },
     }
 }
@@ -110,14 +78,6 @@ pub fn enter_hex_jump_mode<'a>(source: Source<'a>) -> Source<'a>
     }
 }
 
-// A source made of plain parts and asked for its next token.
-pub fn next_at(src: &[u8], place: Offset, mode: Mode) -> Scan
-    ensures { λ r. ⌜ r ≡ scan-of (now (src .entry)) (record { place = place; mode = mode }) ⌝ }
-{
-    let given = next(Source { src, place, mode });
-    given.answer
-}
-
 // Opening, and the reader at the start.
 fn begin(src: &[u8]) -> Begun
     ensures { λ r. ⌜ r ≡ begun-by (open-of (now (src .entry))) ⌝ }
@@ -135,21 +95,5 @@ fn begin(src: &[u8]) -> Begun
                 mode: Mode::Normal,
             },
         },
-    }
-}
-
-// A scan, and the reader behind it.
-fn step(src: &[u8], reader: Reader) -> Stepped
-    ensures { λ r. ⌜ r ≡ stepped-by reader (scan-of (now (src .entry)) reader) ⌝ }
-{
-    let answer = reader.scan(src);
-    let after = match answer {
-        Scan::Found(_, moved) => moved,
-        Scan::End => reader,
-        Scan::Refused(_) => reader,
-    };
-    Stepped {
-        answer,
-        reader: after,
     }
 }

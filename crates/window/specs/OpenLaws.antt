@@ -12,10 +12,10 @@ use Rattle.tokens.specs.declared.Mode.the-variants.{Normal}
 use Rattle.refusals.specs.declared.Refusal.{Refusal}
 use Rattle.refusals.specs.declared.Refusal.the-variants.{SourceTooLong}
 use Rattle.refusals.specs.Refusals.{number-of}
-use Rattle.scanner.specs.declared.Reader.{Reader}
-use Rattle.scanner.specs.declared.Opened.the-variants.{Ready, Refused}
-use Rattle.scanner.specs.Reading.{source-limit}
-use Rattle.scanner.specs.Reading as reading
+use Rattle.reader.specs.declared.Reader.{Reader}
+use Rattle.reader.specs.declared.Opened.the-variants.{Ready, Refused}
+use Rattle.reader.specs.Reading.{source-limit}
+use Rattle.reader.specs.Reading as reading
 use Rattle.token_record.specs.Record.{done, refused, reply}
 use Rattle.token_room.specs.Room.{slots-in}
 use Rattle.window.specs.declared.Window.{Window}

@@ -5,7 +5,7 @@ use mathlib.Core.Path.{_≡_}
 use mathlib.Core.Bool.{true}
 use borrow.Author.Tests.{leb-true, le-leb, eqb-true, eq-eqb}
 use Rattle.patterns.specs.Lists.{each-right}
-use Rattle.scanner.specs.Reading.{source-limit}
+use Rattle.reader.specs.Reading.{source-limit}
 use Rattle.token_room.specs.Room.{slots-in}
 use Rattle.bookmarks.specs.Bookmarks.{held}
 use Rattle.window.specs.declared.Window.{Window}

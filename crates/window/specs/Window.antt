@@ -12,8 +12,8 @@ use Rattle.tokens.specs.declared.TokenIndex.{TokenIndex}
 use Rattle.refusals.specs.declared.DoneAnswer.{DoneAnswer}
 use Rattle.refusals.specs.declared.DoneAnswer.the-variants as of-done
 use Rattle.refusals.specs.Refusals.{number-of}
-use Rattle.scanner.specs.declared.Reader.{Reader}
-use Rattle.scanner.specs.Reading.{source-limit, entered, ahead}
+use Rattle.reader.specs.declared.Reader.{Reader}
+use Rattle.reader.specs.Reading.{source-limit, entered, ahead}
 use Rattle.token_record.specs.Record.{Call, next-token, peek-token, has-more, bookmark, restore-bookmark, remove-bookmark}
 use Rattle.token_record.specs.Record.{current-token-index, enter-hex-pattern-mode, enter-hex-jump-mode, wants}
 use Rattle.token_record.specs.Record.{Answer, token, none, truth, index, done, refused, Reply, reply, bookmark-limit, member, without, least}

@@ -8,7 +8,7 @@ use native.Mathlib.Omega.{arith}
 use native.Mathlib.Nat.{add-zero}
 use lib.ListN.{length}
 use Rattle.patterns.specs.Bools.{by-test}
-use Rattle.scanner.specs.Following.{ahead-none}
+use Rattle.reader.specs.Following.{ahead-none}
 use Rattle.token_record.specs.Record.{Call, peek-token, has-more, Answer, token, none, truth, done, index, refused, reply, wants}
 use Rattle.token_room.specs.Room.{write-all}
 use Rattle.window.specs.declared.Window.{Window}

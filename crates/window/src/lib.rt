@@ -2,10 +2,10 @@
 // window_tests tests it, window_reading takes tokens of it, window_marks keeps its bookmarks, window_modes has its current index and its mode.
 ghost use mathlib.Core.Path.{_≡_};
 ghost use Rattle.window.specs.Window.{fresh, fresh-at, read-on, open-of, done-reply};
+use reader::Opened;
+use reader::Reader;
 use refusals::DoneAnswer;
 use refusals::Refusal;
-use scanner::Opened;
-use scanner::Reader;
 use tokens::Mode;
 use tokens::Offset;
 use tokens::Token;

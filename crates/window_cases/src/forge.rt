@@ -1,6 +1,6 @@
 // The lines that set a field of the window's record.
 use lines::Asked;
-use scanner::Reader;
+use reader::Reader;
 use tokens::Offset;
 use tokens::TokenIndex;
 use window::Window;

@@ -1,6 +1,6 @@
 // Whether two windows are the same, in each field and in each of the 64 places for bookmarks.
 use crate::say;
-use scanner::Reader;
+use reader::Reader;
 use tokens::Mode;
 use tokens::TokenIndex;
 use window::Window;

@@ -1,7 +1,7 @@
 // What is said on standard output.
 use crate::same;
 use libc::STDOUT_FILENO;
-use scanner::Reader;
+use reader::Reader;
 use tokens::TokenIndex;
 use window::TokenAnswer;
 use window::Window;

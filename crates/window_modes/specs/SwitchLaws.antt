@@ -9,8 +9,8 @@ use Rattle.patterns.specs.Bools.{by-test}
 use Rattle.tokens.specs.declared.Mode.{Mode}
 use Rattle.refusals.specs.declared.DoneAnswer.the-variants as of-done
 use Rattle.refusals.specs.declared.Refusal.the-variants.{NotAsOpened}
-use Rattle.scanner.specs.declared.Reader.{Reader}
-use Rattle.scanner.specs.Reading.{entered}
+use Rattle.reader.specs.declared.Reader.{Reader}
+use Rattle.reader.specs.Reading.{entered}
 use Rattle.token_record.specs.Record.{Call, done, reply, wants}
 use Rattle.window.specs.declared.Window.{Window}
 use Rattle.window.specs.declared.DoneGiven.{DoneGiven}

@@ -5,7 +5,7 @@ use mathlib.Core.List.{List}
 use Rattle.tokens.specs.declared.TokenIndex.{TokenIndex}
 use Rattle.refusals.specs.declared.DoneAnswer.{DoneAnswer}
 use Rattle.refusals.specs.declared.DoneAnswer.the-variants as of-done
-use Rattle.scanner.specs.declared.Reader.{Reader}
+use Rattle.reader.specs.declared.Reader.{Reader}
 use Rattle.token_record.specs.Record.{Reply}
 use Rattle.fetching.specs.declared.Fetched.{Fetched}
 use Rattle.fetching.specs.declared.Fetched.the-variants.{Upto, Refused}

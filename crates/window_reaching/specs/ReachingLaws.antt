@@ -12,10 +12,10 @@ use Rattle.patterns.specs.Bools.{by-test}
 use Rattle.patterns.specs.Determined.{Once, once}
 use Rattle.refusals.specs.declared.DoneAnswer.{DoneAnswer}
 use Rattle.tokens.specs.declared.TokenIndex.{TokenIndex}
-use Rattle.scanner.specs.declared.Reader.{Reader}
-use Rattle.scanner.specs.Reading.{source-limit, ahead}
-use Rattle.scanner.specs.Reading as reading
-use Rattle.scanner.specs.Following.{ahead-all}
+use Rattle.reader.specs.declared.Reader.{Reader}
+use Rattle.reader.specs.Reading.{source-limit, ahead}
+use Rattle.reader.specs.Reading as reading
+use Rattle.reader.specs.Following.{ahead-all}
 use Rattle.token_record.specs.Record.{done, refused, reply, least}
 use Rattle.fetching.specs.Fetching.{fetched}
 use Rattle.bookmarks.specs.HeldLaws.{least-le}

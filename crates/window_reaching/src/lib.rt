@@ -2,17 +2,17 @@
 ghost use Prim.Native.Nat.{suc, min, _+_};
 ghost use mathlib.Core.Path.{_≡_};
 ghost use lib.ListN.{length};
-ghost use Rattle.scanner.specs.Reading.{source-limit};
+ghost use Rattle.reader.specs.Reading.{source-limit};
 ghost use Rattle.fetching.specs.Fetching.{fetched};
 ghost use Rattle.window.specs.Window.{state, done-reply};
 ghost use Rattle.window.specs.SoundLaws.{Fit};
 ghost use Rattle.window_reaching.specs.Reaching.{reach, reached};
 ghost use Rattle.window_reaching.specs.Parts.{still, gathered};
 use fetching::Fetched;
+use reader::Reader;
+use reader::SOURCE_LIMIT;
 use refusals::DoneAnswer;
 use refusals::Refusal;
-use scanner::Reader;
-use scanner::SOURCE_LIMIT;
 use tokens::TokenIndex;
 use window::Window;
 

@@ -9,7 +9,7 @@ use lib.ListN.{getD}
 use lib.Dec.{eqb, leb}
 use borrow.Author.Tests.{le-leb}
 use Rattle.patterns.specs.Lists.{each, each-fails}
-use Rattle.scanner.specs.Reading.{source-limit}
+use Rattle.reader.specs.Reading.{source-limit}
 use Rattle.token_room.specs.Room.{slots-in}
 use Rattle.bookmarks.specs.Bookmarks.{unused-place, held, low-of}
 use Rattle.bookmarks.specs.HeldLaws.{held-facts, low-least}

@@ -2,7 +2,7 @@
 ghost use mathlib.Core.Path.{_≡_};
 ghost use Rattle.window.specs.Window.{sound};
 ghost use Rattle.window_tests.specs.TestLaws.{kept-behind-first, as-opened, placed};
-use scanner::SOURCE_LIMIT;
+use reader::SOURCE_LIMIT;
 use tokens::Offset;
 use tokens::TokenIndex;
 use window::Window;

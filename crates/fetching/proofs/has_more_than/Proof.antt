@@ -4,7 +4,7 @@ use mathlib.Core.Path.{refl}
 use borrow.Author.Needs.{needs}
 use native.Mathlib.Omega.{arith}
 use Rattle.fetching.specs.FetchingLaws.{Counting, counting-end, counting-next, counting-more}
-use Rattle.scanner.proofs.Answers.{onward, at-end}
+use Rattle.reader.proofs.Answers.{onward, at-end}
 use Rattle.fetching.proofs.has_more_than.Statement.{statement}
 use Rattle.fetching.proofs.has_more_than.Tie as tie
 

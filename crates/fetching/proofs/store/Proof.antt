@@ -3,7 +3,7 @@
 use borrow.Author.Needs.{needs}
 use native.Mathlib.Omega.{arith}
 use Rattle.fetching.specs.FetchingLaws.{Storing, storing-start, storing-end, storing-done, index-below, storing-next}
-use Rattle.scanner.proofs.Answers.{onward, at-end}
+use Rattle.reader.proofs.Answers.{onward, at-end}
 use Rattle.fetching.proofs.store.Statement.{statement}
 use Rattle.fetching.proofs.store.Tie as tie
 

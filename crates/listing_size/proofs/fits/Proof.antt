@@ -6,7 +6,7 @@ use borrow.Author.Needs.{needs}
 use borrow.Author.Tests.{le-leb}
 use lib.ListN.{length}
 use lib.Dec.{leb}
-use Rattle.scanner.specs.Following.{rest}
+use Rattle.reader.specs.Following.{rest}
 use Rattle.listing_form.specs.Listing.{text}
 use Rattle.listing_size.specs.Sizes.{text-most}
 use Rattle.listing_size.proofs.fits.Statement.{statement}

@@ -5,9 +5,9 @@ use mathlib.Core.Path.{sym, _∙_}
 use borrow.Author.Needs.{needs}
 use native.Mathlib.Omega.{arith}
 use lib.ListN.{length}
-use Rattle.scanner.specs.declared.Scan.the-variants.{Found}
-use Rattle.scanner.specs.Following.{Sound, Onward, says, rest, rest-end, rest-more}
-use Rattle.scanner.proofs.Answers.{at-end}
+use Rattle.reader.specs.declared.Scan.the-variants.{Found}
+use Rattle.reader.specs.Following.{Sound, Onward, says, rest, rest-end, rest-more}
+use Rattle.reader.proofs.Answers.{at-end}
 use Rattle.listing_size.specs.Sizes.{count-fits, lines-fit}
 use Rattle.listing_size.specs.Measuring.{Measured, measured-start, measured-next, measured-end}
 use Rattle.listing_size.proofs.measure.Statement.{statement}

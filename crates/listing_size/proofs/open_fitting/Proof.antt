@@ -2,8 +2,8 @@
 -- Assumes nothing.
 use mathlib.Core.Path.{_≡_, sym, _∙_}
 use borrow.Author.Needs.{needs}
-use Rattle.scanner.specs.declared.Opened.the-variants.{Ready}
-use Rattle.scanner.specs.Reading.{open-of}
+use Rattle.reader.specs.declared.Opened.the-variants.{Ready}
+use Rattle.reader.specs.Reading.{open-of}
 use Rattle.listing_size.specs.Fitting.{opens, fitting-room, fitting-none, fitting-refused}
 use Rattle.listing_size.proofs.open_fitting.Statement.{statement}
 use Rattle.listing_size.proofs.open_fitting.Tie as tie

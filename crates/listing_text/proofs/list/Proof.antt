@@ -2,7 +2,7 @@
 -- of opening is the answer. Assumes nothing.
 use mathlib.Core.Path.{sym, _∙_}
 use borrow.Author.Needs.{needs}
-use Rattle.scanner.specs.declared.Opened.the-variants.{Ready, Refused}
+use Rattle.reader.specs.declared.Opened.the-variants.{Ready, Refused}
 use Rattle.listing_text.specs.ListedLaws.{Fits, fits}
 use Rattle.listing_text.proofs.list.Statement.{statement}
 use Rattle.listing_text.proofs.list.Tie as tie

@@ -8,7 +8,7 @@ use borrow.Author.Needs.{needs}
 use lib.ListN.{length}
 use lib.Seq.{slice}
 use Rattle.tokens.specs.declared.Token.{Token}
-use Rattle.scanner.specs.Following.{rest}
+use Rattle.reader.specs.Following.{rest}
 use Rattle.listing_form.specs.Listing.{lines, head, text}
 use Rattle.listing_form.specs.Put.{Wrote, wrote-up}
 use Rattle.listing_form.specs.Numbers.{length-head, head-least, text-parts, length-text}

@@ -28,7 +28,7 @@ use Rattle.walks.specs.Steps.{gone}
 use Rattle.walks.specs.Contracts.{spelled, answered, returned}
 use Rattle.refusals.proofs.DoneAnswer as An
 use Rattle.refusals.proofs.DoneAnswer.Laws as An′
-use Rattle.scanner.specs.Reading.{open-of}
+use Rattle.reader.specs.Reading.{open-of}
 use Rattle.source.specs.declared.OpenGiven.{OpenGiven}
 use Rattle.source.specs.declared.Begun.{Begun}
 use Rattle.source.specs.Sources.{source-at, begun-by}

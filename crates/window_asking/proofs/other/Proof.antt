@@ -1,7 +1,6 @@
 -- Each arm makes the call of its number; the last one's is any that is left.
 -- Assumes nothing.
 use Prim.Native.Nat.{_≤_}
-use mathlib.Core.Path.{_≡_}
 use borrow.Author.Needs.{needs}
 use native.Mathlib.Omega.{arith}
 use Rattle.window_asking.specs.AskingLaws.{call-known, call-beyond, gave}

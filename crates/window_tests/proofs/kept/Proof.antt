@@ -1,7 +1,7 @@
 -- The low index is what is promised of it; where it is above the number fetched, nothing is kept.
 -- Assumes nothing.
 use Prim.Native.Nat.{_-_}
-use mathlib.Core.Path.{_≡_, ap}
+use mathlib.Core.Path.{ap}
 use borrow.Author.Needs.{needs}
 use native.Mathlib.Omega.{arith}
 use Rattle.tokens.specs.declared.TokenIndex.{TokenIndex}

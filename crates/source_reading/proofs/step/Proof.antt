@@ -2,12 +2,12 @@
 -- Assumes nothing.
 use mathlib.Core.Path.{_≡_, refl, ap, sym, _∙_}
 use borrow.Author.Needs.{needs}
-use Rattle.scanner.specs.declared.Reader.{Reader}
-use Rattle.scanner.specs.declared.Scan.{Scan}
-use Rattle.source.specs.declared.Stepped.{Stepped}
-use Rattle.source.specs.Sources.{reached, stepped-by}
-use Rattle.source.proofs.step.Statement.{statement}
-use Rattle.source.proofs.step.Tie as tie
+use Rattle.reader.specs.declared.Reader.{Reader}
+use Rattle.reader.specs.declared.Scan.{Scan}
+use Rattle.source_reading.specs.declared.Stepped.{Stepped}
+use Rattle.source_reading.specs.Next.{reached, stepped-by}
+use Rattle.source_reading.proofs.step.Statement.{statement}
+use Rattle.source_reading.proofs.step.Tie as tie
 
 -- an answer without a token keeps the reader
 abbrev kept-at : Reader → Scan → Stepped

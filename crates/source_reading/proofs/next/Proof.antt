@@ -22,26 +22,27 @@ use denote.Triple.Spec.{tripleOf}
 use denote.Triple.Table.{entered, cited}
 use Rattle.walks.specs.Steps.{gone}
 use Rattle.walks.specs.Contracts.{answered, returned}
-use Rattle.scanner.specs.Reading.{scan-of}
-use Rattle.scanner.proofs.Scan as An
-use Rattle.scanner.proofs.Scan.Laws as An′
+use Rattle.reader.specs.Reading.{scan-of}
+use Rattle.reader.proofs.Scan as An
+use Rattle.reader.proofs.Scan.Laws as An′
 use Rattle.source.specs.declared.Source.{Source}
-use Rattle.source.specs.declared.ScanGiven.{ScanGiven}
-use Rattle.source.specs.declared.Stepped.{Stepped}
-use Rattle.source.specs.Sources.{reader-of, source-at, stepped-by}
-use Rattle.source.proofs.ScanGiven as G
-use Rattle.source.proofs.Stepped as P
-use Rattle.source.proofs.Stepped.Laws as P′
+use Rattle.source_reading.specs.declared.ScanGiven.{ScanGiven}
+use Rattle.source_reading.specs.declared.Stepped.{Stepped}
+use Rattle.source.specs.Sources.{reader-of, source-at}
+use Rattle.source_reading.specs.Next.{stepped-by}
+use Rattle.source_reading.proofs.ScanGiven as G
+use Rattle.source_reading.proofs.Stepped as P
+use Rattle.source_reading.proofs.Stepped.Laws as P′
 use Rattle.source.proofs.Held.{named-a, source-struct, source-laws, slice-val, reader-val, source-val, OwnBytes, OwnReader, Had, IsSource, its-bytes, its-reader, reader-had, lends}
 use Rattle.source.proofs.Steps.{takes-apart, takes}
 use Rattle.source.proofs.Pair.{pairs}
-use Rattle.source.proofs.step as step
-use Rattle.source.proofs.step.Symbol as step-def
-use Rattle.source.proofs.step.Met as step-thm
-use Rattle.source.proofs.next.Key as key
-use Rattle.source.proofs.next as thin
-use Rattle.source.proofs.next.Statement as stated
-use Rattle.source.proofs.next.Code as code
+use Rattle.source_reading.proofs.step as step
+use Rattle.source_reading.proofs.step.Symbol as step-def
+use Rattle.source_reading.proofs.step.Met as step-thm
+use Rattle.source_reading.proofs.next.Key as key
+use Rattle.source_reading.proofs.next as thin
+use Rattle.source_reading.proofs.next.Statement as stated
+use Rattle.source_reading.proofs.next.Code as code
 
 module _ {M : Type 1} (𝓤 : URA M) (H : Heap 𝓤) (A : Atoms 𝓤) (mem : Memory → SProp 𝓤) (run : Routine → Fun 𝓤) where
   abbrev Step : Contract 𝓤
@@ -83,4 +84,4 @@ next-spec 𝓤 H 𝓜 𝓖 𝓡 =
     let 𝓣 = tablesOf 𝓤 H 𝓜 (tables 𝓤 H 𝓜 𝓡 code.env) in
     entered 𝓤 H (Thin 𝓤 H (𝓖 .A) (𝓜 .mem) (𝓡 .run)) (tables 𝓤 H 𝓜 𝓡 code.env .C) (tables 𝓤 H 𝓜 𝓡 code.env .Λ) key.name code.function (code.unfolded 𝓤 H 𝓜 𝓡)
     (takes W (plain (λ κs. G.the-row (named-a κs))) (thin.clauses 𝓤 H (𝓖 .A) (𝓜 .mem) (𝓡 .run)) (WpFn 𝓤 H (𝓣 .C) (𝓣 .Λ) code.function) (λ κ q d g. walk 𝓤 H (𝓖 .A) (𝓜 .mem) (𝓡 .run) W 𝓣 κ q d
-    (cited 𝓤 H (Step 𝓤 H (𝓖 .A) (𝓜 .mem) (𝓡 .run)) 𝓜 𝓡 code.env step-def.name step-def.routine code.calls-source·step (step-thm.met 𝓤 H 𝓜 𝓖 𝓡))))
+    (cited 𝓤 H (Step 𝓤 H (𝓖 .A) (𝓜 .mem) (𝓡 .run)) 𝓜 𝓡 code.env step-def.name step-def.routine code.calls-source-reading·step (step-thm.met 𝓤 H 𝓜 𝓖 𝓡))))

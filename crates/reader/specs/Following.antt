@@ -13,10 +13,10 @@ use Rattle.tokens.specs.Tokens.{tables-1}
 use Rattle.tokens.specs.Scan.{scan, onto, list-from}
 use Rattle.tokens.specs.ScanLaws.{Step, scan-found}
 use Rattle.tokens.specs.ListLaws.{tile-count, enough, list-step, list-tiles, first-count, first-ends}
-use Rattle.scanner.specs.declared.Reader.{Reader}
-use Rattle.scanner.specs.declared.Scan.{Scan}
-use Rattle.scanner.specs.declared.Scan.the-variants.{End, Found, Refused}
-use Rattle.scanner.specs.Reading.{source-limit, moved, scan-of, Ahead, ahead}
+use Rattle.reader.specs.declared.Reader.{Reader}
+use Rattle.reader.specs.declared.Scan.{Scan}
+use Rattle.reader.specs.declared.Scan.the-variants.{End, Found, Refused}
+use Rattle.reader.specs.Reading.{source-limit, moved, scan-of, Ahead, ahead}
 
 -- a source and a reader that a scan takes
 pub record Sound (src : List ℕ) (r : Reader) : Type 0 where

@@ -8,12 +8,12 @@ use native.Mathlib.Omega.{arith}
 use types.Run.{OneOf}
 use denote.Enum.Declared.{tagOf}
 use Rattle.tokens.specs.declared.Token.{Token}
-use Rattle.scanner.specs.declared.Reader.{Reader}
-use Rattle.scanner.specs.declared.Scan.{Scan}
-use Rattle.scanner.specs.declared.Scan.the-variants.{End, Found, Refused}
-use Rattle.scanner.specs.Reading.{scan-of}
-use Rattle.scanner.specs.Following.{Sound, Onward, Says, says}
-use Rattle.scanner.proofs.Scan.{the-type}
+use Rattle.reader.specs.declared.Reader.{Reader}
+use Rattle.reader.specs.declared.Scan.{Scan}
+use Rattle.reader.specs.declared.Scan.the-variants.{End, Found, Refused}
+use Rattle.reader.specs.Reading.{scan-of}
+use Rattle.reader.specs.Following.{Sound, Onward, Says, says}
+use Rattle.reader.proofs.Scan.{the-type}
 
 module _ {src : List ℕ} {r : Reader} (h : Sound src r) {y : Scan} (e : y ≡ scan-of src r) where
   pub onward : {x : Token} {next : Reader} → y ≡ Found x next → Onward src r x next

@@ -2,9 +2,9 @@
 -- Assumes nothing.
 use lib.ListN.{length}
 use borrow.Author.Tests.{le-leb, lt-leb}
-use Rattle.scanner.specs.Reading.{source-limit}
-use Rattle.scanner.proofs.Reader.open.Statement.{statement}
-use Rattle.scanner.proofs.Reader.open.Tie as tie
+use Rattle.reader.specs.Reading.{source-limit}
+use Rattle.reader.proofs.Reader.open.Statement.{statement}
+use Rattle.reader.proofs.Reader.open.Tie as tie
 
 returns : tie.Need-returns
 returns c = simp (lt-leb (length (c .before .args .src .now)) source-limit (c .if1 .taken))

@@ -13,11 +13,11 @@ use Rattle.tokens.specs.declared.Scanned.{Scanned}
 use Rattle.tokens.specs.declared.Scanned.the-variants as scanned
 use Rattle.tokens.specs.Tokens.{tables-1}
 use Rattle.tokens.specs.Scan.{scan, ends, list-first}
-use Rattle.scanner.specs.declared.Reader.{Reader}
-use Rattle.scanner.specs.declared.Opened.{Opened}
-use Rattle.scanner.specs.declared.Opened.the-variants as opened
-use Rattle.scanner.specs.declared.Scan.{Scan}
-use Rattle.scanner.specs.declared.Scan.the-variants as answer
+use Rattle.reader.specs.declared.Reader.{Reader}
+use Rattle.reader.specs.declared.Opened.{Opened}
+use Rattle.reader.specs.declared.Opened.the-variants as opened
+use Rattle.reader.specs.declared.Scan.{Scan}
+use Rattle.reader.specs.declared.Scan.the-variants as answer
 
 -- the most bytes that a source may have
 abbrev pub source-limit : ℕ

@@ -38,25 +38,26 @@ use Rattle.tokens.proofs.Offset as Offset
 use Rattle.tokens.proofs.Offset.Laws as Offset′
 use Rattle.tokens.proofs.Mode as Mode
 use Rattle.tokens.proofs.Mode.Laws as Mode′
-use Rattle.scanner.specs.declared.Reader.{Reader}
-use Rattle.scanner.proofs.Scan as An
-use Rattle.scanner.proofs.Scan.Laws as An′
-use Rattle.scanner.proofs.Reader as R
-use Rattle.scanner.proofs.Reader.Laws as R′
+use Rattle.reader.specs.declared.Reader.{Reader}
+use Rattle.reader.proofs.Scan as An
+use Rattle.reader.proofs.Scan.Laws as An′
+use Rattle.reader.proofs.Reader as R
+use Rattle.reader.proofs.Reader.Laws as R′
 use Rattle.source.specs.declared.Source.{Source}
-use Rattle.source.specs.Sources.{source-at, next-of}
+use Rattle.source.specs.Sources.{source-at}
+use Rattle.source_reading.specs.Next.{next-of}
 use Rattle.source.proofs.Source as S
 use Rattle.source.proofs.Source.Laws as S′
-use Rattle.source.proofs.ScanGiven as G
-use Rattle.source.proofs.ScanGiven.Laws as G′
+use Rattle.source_reading.proofs.ScanGiven as G
+use Rattle.source_reading.proofs.ScanGiven.Laws as G′
 use Rattle.source.proofs.Held.{local-a, Bytes, slice-val, offset-val, mode-val, source-val, OwnSource, IsBytes, IsReader, is-source, together}
-use Rattle.source.proofs.next as next
-use Rattle.source.proofs.next.Symbol as next-def
-use Rattle.source.proofs.next.Met as next-thm
-use Rattle.source.proofs.next_at.Key as key
-use Rattle.source.proofs.next_at as thin
-use Rattle.source.proofs.next_at.Statement as stated
-use Rattle.source.proofs.next_at.Code as code
+use Rattle.source_reading.proofs.next as next
+use Rattle.source_reading.proofs.next.Symbol as next-def
+use Rattle.source_reading.proofs.next.Met as next-thm
+use Rattle.source_reading.proofs.next_at.Key as key
+use Rattle.source_reading.proofs.next_at as thin
+use Rattle.source_reading.proofs.next_at.Statement as stated
+use Rattle.source_reading.proofs.next_at.Code as code
 
 module _ {M : Type 1} (𝓤 : URA M) (H : Heap 𝓤) (A : Atoms 𝓤) (mem : Memory → SProp 𝓤) (run : Routine → Fun 𝓤) where
   abbrev Next : Contract 𝓤
@@ -122,4 +123,4 @@ next-at-spec 𝓤 H 𝓜 𝓖 𝓡 =
     (spelled 𝓤 H (𝓖 .A) thin.signature (thin.spec 𝓤 H (𝓖 .A) (𝓜 .mem) (𝓡 .run)) (WpFn 𝓤 H (𝓣 .C) (𝓣 .Λ) code.function)
     (λ κs. (slice-vals, (LL.vals Offset.the-type Offset′.the-laws, (EL.vals Mode.the-type Mode′.the-laws, tt)))) (λ κs. (shr-slice-tells (named 0) (κs .0) u8, (LL.tells Offset.the-type Offset′.the-laws, (EL.tells Mode.the-type Mode′.the-laws, tt))))
     (λ κs qs bounds a g are. walk 𝓤 H (𝓖 .A) (𝓜 .mem) (𝓡 .run) W 𝓣 (κs .0) (qs .0) (a .0) (a .1 .0) (a .1 .1 .0) (are .1 .0) (are .1 .1 .0)
-    (cited 𝓤 H (Next 𝓤 H (𝓖 .A) (𝓜 .mem) (𝓡 .run)) 𝓜 𝓡 code.env next-def.name next-def.routine code.calls-source·next (next-thm.met 𝓤 H 𝓜 𝓖 𝓡)) (are .0)))
+    (cited 𝓤 H (Next 𝓤 H (𝓖 .A) (𝓜 .mem) (𝓡 .run)) 𝓜 𝓡 code.env next-def.name next-def.routine code.calls-source-reading·next (next-thm.met 𝓤 H 𝓜 𝓖 𝓡)) (are .0)))
