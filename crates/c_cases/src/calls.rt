@@ -25,7 +25,7 @@ fn show_listing(src: &[u8], out: &mut [u8]) {
     say::answer(c_listing::rattle_listing(src, out, &mut len));
     say::long(len as u64);
     say::text(b"\n");
-    say::text(out);
+    say::end(out);
 }
 
 // The same in the first bytes.
@@ -33,6 +33,21 @@ fn listing(n: usize, src: &[u8], out: &mut [u8]) {
     if n <= out.len() {
         show_listing(src, &mut out[0..n]);
     }
+}
+
+// A source of the most bytes, each of them a token.
+fn colons() -> [u8; 65535] {
+    [b':'; 65535]
+}
+
+// Room for its listing, and not a byte more.
+fn most_room() -> [u8; 960822] {
+    [b'.'; 960822]
+}
+
+// The listing of the most tokens, in the first bytes.
+fn most(n: usize) {
+    listing(n, &colons(), &mut most_room());
 }
 
 // A script on a window.
@@ -87,6 +102,7 @@ pub(crate) fn make(asked: Asked, src: &[u8], script: &[u32]) {
     match letter {
         b'T' => tokens(asked, src, &mut [7; 16]),
         b'L' => listing(asked.first, src, &mut [b'.'; 32]),
+        b'M' => most(asked.first),
         b'W' => window(asked, src, script, &mut [7; 16], &mut [8; 64]),
         b'E' => events(asked, script, &mut [7; 32], &mut [7; 4]),
         _ => {}

@@ -6,6 +6,15 @@ pub(crate) fn text(bytes: &[u8]) {
     io::write_all(STDOUT_FILENO, bytes);
 }
 
+// The last 30 bytes, which of the longest listing are two lines; all where there are no more.
+pub(crate) fn end(bytes: &[u8]) {
+    let n = bytes.len();
+    if n <= 30 {
+        return text(bytes);
+    }
+    text(&bytes[n - 30..n]);
+}
+
 // A number behind a space.
 pub(crate) fn long(n: u64) {
     text(b" ");
