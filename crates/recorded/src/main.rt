@@ -3,8 +3,8 @@
 //
 // A record is a line: a source in hexadecimal, and numbers, each behind a space; include/rattle.h says what they mean. A line that is no record
 // counts as one that differs.
-mod numbers;
 mod outcomes;
+mod record;
 mod sequences;
 mod tokenizer;
 
@@ -26,8 +26,8 @@ fn at_end() -> bool {
 
 // Replays the record of the source: the text has its numbers at the place, and behind the first ones `;` where it is one of calls.
 fn replay_on(text: &[u8], at: usize, src: &[u8]) -> Outcome {
-    let mut room = numbers::room();
-    let read = numbers::read(text, at, &mut room);
+    let mut room = record::room();
+    let read = record::read(text, at, &mut room);
     let end = read.end;
     let count = read.count;
     let behind = places::byte_at(text, end);

@@ -1,9 +1,9 @@
 // Records of the Rust's window: two numbers for each call; `;`; and four numbers for each of the Rust's answers. Each is replayed by the C function
 // `rattle_window`: with ample room, where every answer must be the Rust's; and with 0 to 8 slots, where every answer must be up to the first
 // refusal 2.
-use crate::numbers;
 use crate::outcomes;
 use crate::outcomes::Outcome;
+use crate::record;
 
 // How many answers are the recorded ones, before the first that is not; and whether all are, or that one is refusal 2.
 struct InRoom {
@@ -62,7 +62,7 @@ fn replay_in(slots: usize, src: &[u8], script: &[u32], answers: &mut [u32]) -> b
 
 // Replays a sequence with so many slots.
 fn answered_in(slots: usize, src: &[u8], script: &[u32], recorded: &[u32; 4096]) -> InRoom {
-    let mut answers = numbers::room();
+    let mut answers = record::room();
     if replay_in(slots, src, script, &mut answers) {
         return compared(script.len() / 2, recorded, &answers);
     }
@@ -105,8 +105,8 @@ fn is_script(calls: usize, answers: usize) -> bool {
 
 // Replays the calls on the source; the text has their answers at the place, and LF behind them.
 pub(crate) fn replay(text: &[u8], at: usize, src: &[u8], script: &[u32]) -> Outcome {
-    let mut room = numbers::room();
-    let recorded = numbers::read(text, at, &mut room);
+    let mut room = record::room();
+    let recorded = record::read(text, at, &mut room);
     let whole = places::byte_at(text, recorded.end) == b'\n';
     if whole & is_script(script.len(), recorded.count) {
         return answered(src, script, &room);

@@ -1,11 +1,11 @@
--- `recorded::numbers::read` meets its contract: each turn but the last fills one more place of the room, whose length stays.
+-- `recorded::record::read` meets its contract: each turn but the last fills one more place of the room, whose length stays.
 -- The measure is the number of places that are left. Assumes nothing.
 use Prim.Native.Nat.{_-_, _≤_}
 use mathlib.Core.Path.{_≡_}
 use lib.ListN.{length}
 use borrow.Author.Needs.{needs}
-use Rattle.recorded.proofs.numbers.read.Statement.{statement}
-use Rattle.recorded.proofs.numbers.read.Tie as tie
+use Rattle.recorded.proofs.record.read.Statement.{statement}
+use Rattle.recorded.proofs.record.read.Tie as tie
 
 abbrev Inv-loop : tie.InvT-loop
 Inv-loop text from out₀ count₀ end₀ out count end = (count ≤ length out₀) × (length out ≡ length out₀)
