@@ -34,7 +34,7 @@ fn replay_on(text: &[u8], at: usize, src: &[u8]) -> Outcome {
     if behind == b';' {
         return sequences::replay(text, end + 1, src, &room[..count]);
     }
-    outcomes::of_source((behind == b'\n') & tokenizer::is_right(src, &room[..count]))
+    outcomes::without_calls((behind == b'\n') & tokenizer::is_right(src, &room[..count]))
 }
 
 // Replays the record at the place. A last line with no LF was cut off, and is none.
@@ -43,7 +43,7 @@ fn replay_record(text: &[u8], at: usize) -> Outcome {
     let source = hex_pairs::decode(text, at, &mut src);
     let len = source.len;
     if len > 4096 {
-        return outcomes::of_source(false);
+        return outcomes::without_calls(false);
     }
     replay_on(text, source.end, &src[..len])
 }

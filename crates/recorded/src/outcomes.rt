@@ -16,8 +16,8 @@ pub(crate) struct Tally {
     differ: usize,
 }
 
-// Of a source, which has no calls; and, not right, of what is no record.
-pub(crate) fn of_source(right: bool) -> Outcome {
+// The outcome of a record that has no calls, as a source has none; not right, of what is no record.
+pub(crate) fn without_calls(right: bool) -> Outcome {
     Outcome {
         calls: 0,
         small: 0,

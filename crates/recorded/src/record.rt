@@ -8,7 +8,7 @@ pub(crate) struct Numbers {
     pub(crate) end: usize,
 }
 
-// Room for the numbers of 1,024 answers, or of twice as many calls.
+// Room for 4,096 numbers: those of 1,024 answers, or of the tokens of every recorded source.
 pub(crate) fn room() -> [u32; 4096] {
     [0u32; 4096]
 }

@@ -111,5 +111,5 @@ pub(crate) fn replay(text: &[u8], at: usize, src: &[u8], script: &[u32]) -> Outc
     if whole & is_script(script.len(), recorded.count) {
         return answered(src, script, &room);
     }
-    outcomes::of_source(false)
+    outcomes::without_calls(false)
 }

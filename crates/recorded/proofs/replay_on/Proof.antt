@@ -44,8 +44,8 @@ slice-aggregate-is-right c = sym (length-take-le _ _ (omega arith))
 is-right-requires : tie.Need-is-right-requires
 is-right-requires c κs = search needs
 
-of-source-requires : tie.Need-of-source-requires
-of-source-requires c κs = search needs
+without-calls-requires : tie.Need-without-calls-requires
+without-calls-requires c κs = search needs
 
 returns-2 : tie.Need-returns-2
 returns-2 c = search needs
@@ -66,5 +66,5 @@ replay-on-spec =
     array-share-prefix-room-2
     slice-aggregate-is-right
     is-right-requires
-    of-source-requires
+    without-calls-requires
     returns-2)

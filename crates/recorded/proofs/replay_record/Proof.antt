@@ -16,8 +16,8 @@ slice-aggregate-decode c = search needs
 decode-requires : tie.Need-decode-requires
 decode-requires c κs = search needs
 
-of-source-requires : tie.Need-of-source-requires
-of-source-requires c κs = search needs
+without-calls-requires : tie.Need-without-calls-requires
+without-calls-requires c κs = search needs
 
 returns : tie.Need-returns
 returns c = search needs
@@ -41,7 +41,7 @@ replay-record-spec =
     buffer-requires
     slice-aggregate-decode
     decode-requires
-    of-source-requires
+    without-calls-requires
     returns
     array-share-prefix-src
     slice-aggregate-replay-on
