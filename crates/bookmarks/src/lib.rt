@@ -3,6 +3,13 @@ ghost use Prim.Native.Nat.{_≤_};
 ghost use mathlib.Core.Path.{_≡_};
 ghost use lib.ListN.{take, drop};
 ghost use Rattle.bookmarks.specs.Bookmarks.{in-order, unused, held, low-of};
+
+mod inserting;
+mod removing;
+
+pub use inserting::insert;
+pub use removing::has;
+pub use removing::remove;
 use tokens::TokenIndex;
 
 // How many bookmarks there can be.

@@ -5,7 +5,7 @@ use lines::Asked;
 // The tokens, in the numbers that are lent.
 fn show_tokens(src: &[u8], place: u32, mode: u32, out: &mut [u32]) {
     let mut count = 5;
-    say::answer(c_tokens::rattle_tokens(src, place, mode, out, &mut count));
+    say::answer(c_functions::rattle_tokens(src, place, mode, out, &mut count));
     say::short(count);
     say::shorts(out);
 }
@@ -22,7 +22,7 @@ fn tokens(asked: Asked, src: &[u8], out: &mut [u32]) {
 // The listing, in the bytes that are lent.
 fn show_listing(src: &[u8], out: &mut [u8]) {
     let mut len = 5;
-    say::answer(c_listing::rattle_listing(src, out, &mut len));
+    say::answer(c_functions::rattle_listing(src, out, &mut len));
     say::long(len as u64);
     say::text(b"\n");
     say::end(out);
@@ -52,7 +52,7 @@ fn most(n: usize) {
 
 // A script on a window.
 fn show_window(src: &[u8], script: &[u32], room: &mut [u32], answers: &mut [u32]) {
-    say::answer(c_window::rattle_window(src, script, room, answers));
+    say::answer(c_functions::rattle_window(src, script, room, answers));
     say::shorts(room);
     say::shorts(answers);
 }
@@ -68,7 +68,7 @@ fn window(asked: Asked, src: &[u8], script: &[u32], room: &mut [u32], answers: &
 
 // A script on an event stream.
 fn show_events(script: &[u32], room: &mut [u32], opens: &mut [usize], answers: &mut [usize]) {
-    say::answer(c_events::rattle_events(script, room, opens, answers));
+    say::answer(c_functions::rattle_events(script, room, opens, answers));
     say::shorts(room);
     say::longs(opens);
     say::longs(answers);

@@ -62,7 +62,7 @@ pub(crate) struct OneByte {
 
 // The byte at a place of a source, read by itself.
 pub(crate) fn one_byte(src: &[u8], at: u32, mode: Mode) -> OneByte {
-    let Scan::Found(token, next) = scanner::scan(reader_at(at, mode), src) else {
+    let Scan::Found(token, next) = reader_at(at, mode).scan(src) else {
         return OneByte { kind: 0, mode };
     };
     let end = token.end.0;

@@ -68,7 +68,7 @@ pub(crate) fn token(t: Token) {
 
 // What a reader answers that finds no token: none, where it stays as it is; or a refusal.
 fn ending(src: &[u8], reader: Reader) {
-    match scanner::scan(reader, src) {
+    match reader.scan(src) {
         Scan::Found(_, _) => text(b"more tokens than bytes"),
         Scan::End => {
             text(b"none, ");
@@ -88,7 +88,7 @@ fn read_through(src: &[u8], opened: Reader) -> Reading {
     };
     let mut tokens = 0;
     while tokens < src.len() {
-        let Scan::Found(found, next) = scanner::scan(reader, src) else {
+        let Scan::Found(found, next) = reader.scan(src) else {
             break;
         };
         last = found;

@@ -8,7 +8,7 @@ use tokens::Offset;
 // What the source of these bytes answers at a place.
 fn asked(src: &[u8], place: u32, mode: Mode) {
     say::text(b"; ");
-    match source_reading::next_at(src, Offset(place), mode) {
+    match source::next_at(src, Offset(place), mode) {
         Scan::Found(token, reader) => {
             say::token(token);
             say::text(b", ");

@@ -2,8 +2,8 @@
 // it handed on.
 use crate::same;
 use crate::say;
-use event_asking::Asked;
-use event_asking::ToldGiven;
+use event_scripts::Asked;
+use event_scripts::ToldGiven;
 use events::EventAnswer;
 use events::Stream;
 
@@ -49,7 +49,7 @@ fn said(before: Stream, given: ToldGiven) -> Stream {
 
 // Makes a call.
 fn call(s: Stream, asked: Asked, room: &mut [u32], opens: &mut [usize]) -> Stream {
-    said(s, event_asking::call(s, room, opens, asked))
+    said(s, event_scripts::call(s, room, opens, asked))
 }
 
 // Opens a stream.
@@ -64,7 +64,7 @@ fn drain(s: Stream, room: &[u32], opens: &[usize]) -> Stream {
     let mut left = s;
     let mut turns: usize = 0;
     while turns < most {
-        let given = event_popping::pop(left, room, opens);
+        let given = left.pop(room, opens);
         let answer = given.answer;
         left = given.stream;
         match answer {

@@ -1,7 +1,7 @@
 // What is said on standard output.
-use event_asking::Told;
 use event_record::Event;
 use event_record::Span;
+use event_scripts::Told;
 use events::Stream;
 use libc::STDOUT_FILENO;
 use refusals::Refusal;

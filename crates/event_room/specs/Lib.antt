@@ -1,4 +1,4 @@
--- What the ring of events holds (Room), and its laws: of one slot (RoomLaws), of the events in the ring's order (RingLaws).
+-- The room of the events (Room), and the laws of its slots and of the ring.
 pub mod Room
 pub mod RoomLaws
 pub mod RingLaws

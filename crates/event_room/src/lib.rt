@@ -1,10 +1,16 @@
-// The lent room of the events: slots of four numbers each (tag, kind or message, start, end).
+// The lent room of the events: slots of four numbers each (tag, kind or message, start, end), and the ring that they are (`ring`).
 ghost use mathlib.Core.Path.{_≡_};
 ghost use Prim.Native.Nat.{_+_, _*_, _≤_};
 ghost use lib.ListN.{length};
 ghost use Rattle.event_room.specs.Room.{width, slots-in, write-at, read-at, write, read};
+
+mod ring;
+
 use event_record::Event;
 use event_record::Span;
+pub use ring::event_at;
+pub use ring::put;
+pub use ring::slot_of;
 use rooms::Slot;
 use tokens::Offset;
 

@@ -1,8 +1,23 @@
--- The stream's calls over lent rooms (Stream); what the steps that calls share leave (Parts); laws of refusal 24 (SoundLaws), of what stores
--- hold (HoldLaws), of the grounds that two calls share (MarkLaws), and that the promises leave no choice (Determined).
+-- The event stream's calls (Stream), the steps that they are made of, and the laws of both.
 pub mod Stream
 pub mod Parts
 pub mod SoundLaws
 pub mod HoldLaws
 pub mod MarkLaws
 pub mod Determined
+pub mod TestLaws
+pub mod PushingParts
+pub mod PushingLaws
+pub mod OpeningParts
+pub mod OpeningLaws
+pub mod ClosingParts
+pub mod ClosingHolds
+pub mod ClosingLaws
+pub mod MarkingParts
+pub mod MarkingLaws
+pub mod TruncatingParts
+pub mod TruncatingLaws
+pub mod PoppingParts
+pub mod PoppingLaws
+pub mod ReadingLaws
+pub mod BalanceLaws

@@ -1,11 +1,22 @@
 // The event stream: the nodes, tokens and errors that a parser finds, in order, in a ring of slots that is lent. Its record, the answers, and
-// the steps that more than one call is made of; each group of calls has a crate of its own.
+// the steps that more than one call is made of; each group of calls has a module.
 ghost use Prim.Native.Nat.{_+_, _-_};
 ghost use mathlib.Core.Path.{_≡_};
 ghost use lib.ListN.{length};
 ghost use Rattle.event_room.specs.Room.{slots-in};
 ghost use Rattle.events.specs.Stream.{fresh};
 ghost use Rattle.events.specs.Parts.{counting, refused-with, done-with};
+
+mod balance;
+mod closing;
+mod marks;
+mod opening;
+mod popping;
+mod pushing;
+mod reading;
+mod tests;
+mod truncating;
+
 use event_record::Event;
 use event_record::Position;
 use event_record::Span;
@@ -84,43 +95,43 @@ impl Stream {
             popped: false,
         }
     }
-}
 
-// Refused: the stream stays.
-pub fn refused(stream: Stream, refusal: Refusal) -> DoneGiven
-    ensures { λ r. ⌜ r ≡ refused-with refusal stream ⌝ }
-{
-    DoneGiven {
-        answer: DoneAnswer::Refused(refusal),
-        stream,
+    // Refused: the stream stays.
+    fn refused(self, refusal: Refusal) -> DoneGiven
+        ensures { λ r. ⌜ r ≡ refused-with refusal self ⌝ }
+    {
+        DoneGiven {
+            answer: DoneAnswer::Refused(refusal),
+            stream: self,
+        }
     }
-}
 
-// Done: the stream has other numbers of events and of open nodes, and another last token.
-pub fn counted(stream: Stream, count: usize, opened: usize, last: Span) -> DoneGiven
-    ensures { λ r. ⌜ r ≡ done-with (counting count opened last stream) ⌝ }
-{
-    let mut changed = stream;
-    changed.count = count;
-    changed.opened = opened;
-    changed.last = last;
-    DoneGiven {
-        answer: DoneAnswer::Done,
-        stream: changed,
+    // Done: the stream has other numbers of events and of open nodes, and another last token.
+    fn counted(self, count: usize, opened: usize, last: Span) -> DoneGiven
+        ensures { λ r. ⌜ r ≡ done-with (counting count opened last self) ⌝ }
+    {
+        let mut changed = self;
+        changed.count = count;
+        changed.opened = opened;
+        changed.last = last;
+        DoneGiven {
+            answer: DoneAnswer::Done,
+            stream: changed,
+        }
     }
-}
 
-// Slots beyond the events and beyond those that open nodes reserve, one each; 0 where there are not so many slots.
-pub fn spare(stream: Stream) -> usize
-    ensures { λ r. ⌜ r ≡ stream .slots - (stream .count + stream .opened) ⌝ }
-{
-    if stream.slots < stream.opened {
-        return 0;
-    }
-    let left = stream.slots - stream.opened;
-    if left < stream.count {
-        0
-    } else {
-        left - stream.count
+    // Slots beyond the events and beyond those that open nodes reserve, one each; 0 where there are not so many slots.
+    fn spare(self) -> usize
+        ensures { λ r. ⌜ r ≡ self .slots - (self .count + self .opened) ⌝ }
+    {
+        if self.slots < self.opened {
+            return 0;
+        }
+        let left = self.slots - self.opened;
+        if left < self.count {
+            0
+        } else {
+            left - self.count
+        }
     }
 }

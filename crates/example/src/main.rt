@@ -62,25 +62,16 @@ fn say_event(given: EventGiven) -> Stream {
 fn try_a_reading(src: &[u8]) {
     let mut room = [0; 24];
     let opened = Window::open(src, &room);
-    let marked = window_marks::bookmark(opened.window, src, &room);
+    let marked = opened.window.bookmark(src, &room);
     let answer = marked.answer;
     let IndexAnswer::Index(mark) = answer else {
         return;
     };
-    let keyword = say_token(
-        b"next",
-        window_reading::next_token(marked.window, src, &mut room),
-    );
-    let name = say_token(
-        b"peek 1",
-        window_reading::peek_token(keyword, src, &mut room, 1),
-    );
-    let back = window_marks::restore_bookmark(name, src, &room, mark);
-    let free = window_marks::remove_bookmark(back.window, src, &room, mark);
-    say_token(
-        b"next",
-        window_reading::next_token(free.window, src, &mut room),
-    );
+    let keyword = say_token(b"next", marked.window.next_token(src, &mut room));
+    let name = say_token(b"peek 1", keyword.peek_token(src, &mut room, 1));
+    let back = name.restore_bookmark(src, &room, mark);
+    let free = back.window.remove_bookmark(src, &room, mark);
+    say_token(b"next", free.window.next_token(src, &mut room));
 }
 
 // A node of kind 1 around one token. The room has four slots, four numbers for an event, and there is one open place.
@@ -88,17 +79,17 @@ fn hand_on(kind: u16, span: Span) {
     let mut room = [0; 16];
     let mut opens = [0; 1];
     let empty = Stream::open(&room, &opens);
-    let begun = event_opening::begin(empty, &mut room, &mut opens, 1);
-    let pushed = event_pushing::push_token(begun.stream, &mut room, &opens, kind, span);
-    let ended = event_closing::end(pushed.stream, &mut room, &opens);
+    let begun = empty.begin(&mut room, &mut opens, 1);
+    let pushed = begun.stream.push_token(&mut room, &opens, kind, span);
+    let ended = pushed.stream.end(&mut room, &opens);
     say_events(ended.stream, &room, &opens);
 }
 
 // Its three events, each popped.
 fn say_events(node: Stream, room: &[u32], opens: &[usize]) {
-    let two_left = say_event(event_popping::pop(node, room, opens));
-    let one_left = say_event(event_popping::pop(two_left, room, opens));
-    say_event(event_popping::pop(one_left, room, opens));
+    let two_left = say_event(node.pop(room, opens));
+    let one_left = say_event(two_left.pop(room, opens));
+    say_event(one_left.pop(room, opens));
 }
 
 fn main() {

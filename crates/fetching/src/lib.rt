@@ -87,13 +87,13 @@ fn has_more_than(src: &[u8], reader: Reader, n: usize) -> bool
     let mut at = reader;
     let mut left = n;
     while 0 < left {
-        let Scan::Found(_, next) = scanner::scan(at, src) else {
+        let Scan::Found(_, next) = at.scan(src) else {
             return false;
         };
         at = next;
         left -= 1;
     }
-    match scanner::scan(at, src) {
+    match at.scan(src) {
         Scan::Found(_, _) => true,
         _ => false,
     }
@@ -108,7 +108,7 @@ fn store(src: &[u8], reader: Reader, room: &mut [u32], first: TokenIndex, need: 
     let mut index = first.0;
     let mut left = need;
     while 0 < left {
-        let Scan::Found(token, next) = scanner::scan(at, src) else {
+        let Scan::Found(token, next) = at.scan(src) else {
             return Stored {
                 reader: at,
                 next: TokenIndex(index),

@@ -5,7 +5,7 @@ use mathlib.Core.Path.{_≡_, refl}
 use mathlib.Core.List.{[], _∷_, map}
 use Rattle.patterns.specs.Walk.{span}
 use Rattle.tokens.specs.Tokens.{ascii}
-use Rattle.decimals.specs.Decimals.{greatest}
+use Rattle.lines.specs.Decimals.{greatest}
 use Rattle.lines.specs.declared.Asked.{Asked}
 use Rattle.lines.specs.Lines.{lf, next-byte, asked}
 

@@ -11,9 +11,9 @@ use lib.Dec.{eqb, leb}
 use borrow.Author.Tests.{leb-true, leb-false}
 use Rattle.patterns.specs.Bools.{by-test}
 use Rattle.patterns.specs.Walk.{span, span-within, span-stops, span-over}
-use Rattle.decimals.specs.declared.Number.{Number}
-use Rattle.decimals.specs.Decimals.{space, number, behind}
-use Rattle.decimals.specs.DecimalLaws.{behind-value}
+use Rattle.lines.specs.declared.decimals.Number.{Number}
+use Rattle.lines.specs.Decimals.{space, number, behind}
+use Rattle.lines.specs.DecimalLaws.{behind-value}
 use Rattle.lines.specs.declared.Asked.{Asked}
 use Rattle.lines.specs.Lines.{other-than, next-byte, behind-space, asked}
 

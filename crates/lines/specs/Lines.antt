@@ -6,7 +6,7 @@ use mathlib.Core.List.{List}
 use lib.ListN.{getD, drop}
 use lib.Dec.{eqb}
 use Rattle.patterns.specs.Walk.{span}
-use Rattle.decimals.specs.Decimals.{space, number}
+use Rattle.lines.specs.Decimals.{space, number}
 use Rattle.lines.specs.declared.Asked.{Asked}
 
 abbrev pub lf : ℕ

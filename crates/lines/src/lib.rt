@@ -2,7 +2,14 @@
 ghost use Prim.Native.Nat.{min};
 ghost use mathlib.Core.Path.{_≡_};
 ghost use Rattle.lines.specs.Lines.{next-byte, asked};
-use decimals::number_behind;
+
+mod decimals;
+mod hex_pairs;
+
+pub use decimals::Number;
+pub use decimals::number_behind;
+pub use hex_pairs::Decoded;
+pub use hex_pairs::decode;
 use places::byte_at;
 
 // What a line asks for: its first letter, 0 where it is empty; and the numbers behind the first three spaces, 0 where there are none.

@@ -1,4 +1,11 @@
--- What a call answers and leaves in the lent bytes (Listed), with its laws; and the loop that writes the lines.
+-- The listing: its text, how long it is, and the call that writes it.
 pub mod Listed
 pub mod Turns
 pub mod ListedLaws
+pub mod Listing
+pub mod Examples
+pub mod Put
+pub mod Numbers
+pub mod Fitting
+pub mod Sizes
+pub mod Measuring

@@ -13,8 +13,8 @@ use Rattle.tokens.specs.Scan.{list-from, tokens}
 use Rattle.reader.specs.Reading.{source-limit}
 use Rattle.listing_text.specs.declared.Listed.{Listed}
 use Rattle.listing_text.specs.declared.Listed.the-variants.{Written, Refused}
-use Rattle.listing_form.specs.Listing.{text}
-use Rattle.listing_form.specs.Put.{put}
+use Rattle.listing_text.specs.Listing.{text}
+use Rattle.listing_text.specs.Put.{put}
 
 pub record Outcome : Type 0 where
   pub answer : Listed

@@ -22,11 +22,11 @@ use Rattle.reader.specs.Reading.{source-limit}
 use Rattle.reader.specs.Following.{Sound, rest}
 use Rattle.listing_text.specs.declared.Listed.{Listed}
 use Rattle.listing_text.specs.declared.Listed.the-variants.{Written, Refused}
-use Rattle.listing_form.specs.Listing.{text}
+use Rattle.listing_text.specs.Listing.{text}
 use Rattle.listing_text.specs.Listed.{Outcome, outcome, written, listed}
-use Rattle.listing_form.specs.Put.{put, Wrote}
-use Rattle.listing_size.specs.Sizes.{text-fits}
-use Rattle.listing_size.specs.Fitting.{with-room, fitting}
+use Rattle.listing_text.specs.Put.{put, Wrote}
+use Rattle.listing_text.specs.Sizes.{text-fits}
+use Rattle.listing_text.specs.Fitting.{with-room, fitting}
 
 -- A text that fits and was put, and one that does not fit.
 module _ (t out : List ℕ) where

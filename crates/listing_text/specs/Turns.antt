@@ -7,9 +7,9 @@ use native.Mathlib.Nat.{add-zero}
 use native.Mathlib.Omega.{arith}
 use lib.ListN.{length}
 use Rattle.tokens.specs.declared.Token.{Token}
-use Rattle.listing_form.specs.Listing.{line, lines}
-use Rattle.listing_form.specs.Put.{Wrote, put-nil, wrote-both}
-use Rattle.listing_form.specs.Numbers.{length-left}
+use Rattle.listing_text.specs.Listing.{line, lines}
+use Rattle.listing_text.specs.Put.{Wrote, put-nil, wrote-both}
+use Rattle.listing_text.specs.Numbers.{length-left}
 
 -- the tokens so far; and to write the lines that are left from here on is to write all of them from the start.
 pub record Writing (xs : List Token) (at : ℕ) (out₀ : List ℕ) (count behind : ℕ) (out : List ℕ) (left : List Token) : Type 0 where

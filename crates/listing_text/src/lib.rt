@@ -4,10 +4,14 @@ ghost use mathlib.Core.Path.{_≡_};
 ghost use lib.ListN.{length};
 ghost use lib.Seq.{slice};
 ghost use Rattle.reader.specs.Following.{Sound, rest};
-ghost use Rattle.listing_form.specs.Listing.{decimal, field, line, lines, head, text};
-ghost use Rattle.listing_form.specs.Put.{Wrote};
+ghost use Rattle.listing_text.specs.Listing.{decimal, field, line, lines, head, text};
+ghost use Rattle.listing_text.specs.Put.{Wrote};
 ghost use Rattle.listing_text.specs.Listed.{outcome, listed};
-use listing_form::number_len;
+
+mod form;
+mod size;
+
+use crate::form::number_len;
 use reader::Opened;
 use reader::Reader;
 use reader::Scan;
@@ -24,7 +28,7 @@ pub enum Listed {
 pub fn list(src: &[u8], out: &mut [u8]) -> Listed
     ensures { λ r. ⌜ outcome r (now (out .exit)) ≡ listed (now (src .entry)) (now (out .entry)) ⌝ }
 {
-    match listing_size::open_fitting(src, out.len()) {
+    match size::open_fitting(src, out.len()) {
         Opened::Ready(start) => Listed::Written(put_text(out, src, start)),
         Opened::Refused(refusal) => Listed::Refused(refusal),
     }
@@ -62,7 +66,7 @@ fn put_lines(out: &mut [u8], at: usize, src: &[u8], start: Reader) -> Lines
     let mut behind = at;
     let mut reader = start;
     loop {
-        let Scan::Found(token, next) = scanner::scan(reader, src) else {
+        let Scan::Found(token, next) = reader.scan(src) else {
             return Lines { tokens, behind };
         };
         tokens += 1;

@@ -4,6 +4,13 @@ ghost use mathlib.Core.List.{map};
 ghost use lib.ListN.{drop};
 ghost use Rattle.tokens.specs.Tokens.{spelled, operators};
 ghost use Rattle.tokens.specs.Scan.{best};
+
+mod signs;
+
+pub use signs::hex_byte;
+pub use signs::jump_operator;
+pub use signs::newline;
+pub use signs::pattern_operator;
 use tokens::Hit;
 
 // The operator at a place.

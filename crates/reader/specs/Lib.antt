@@ -1,4 +1,4 @@
--- What the calls of a reader promise, and the laws by which they are met.
+-- The reader's calls (Reading), and the laws of scanning on.
 pub mod Reading
 pub mod ReaderLaws
 pub mod Following

@@ -3,6 +3,9 @@
 ghost use mathlib.Core.Path.{_≡_};
 ghost use Rattle.tokens.specs.declared.Mode.the-variants.{HexPattern, HexJump};
 ghost use Rattle.reader.specs.Reading.{open-of, entered};
+
+mod scanning;
+
 use refusals::Refusal;
 use tokens::Mode;
 use tokens::Offset;
@@ -48,21 +51,21 @@ impl Reader {
     pub fn enter_hex_pattern_mode(self) -> Reader
         ensures { λ r. ⌜ r ≡ entered HexPattern self ⌝ }
     {
-        in_mode(self, Mode::HexPattern)
+        self.in_mode(Mode::HexPattern)
     }
 
     // Switches to the jump mode, where the reader is.
     pub fn enter_hex_jump_mode(self) -> Reader
         ensures { λ r. ⌜ r ≡ entered HexJump self ⌝ }
     {
-        in_mode(self, Mode::HexJump)
+        self.in_mode(Mode::HexJump)
     }
-}
 
-// The reader where it is, in another mode.
-fn in_mode(reader: Reader, mode: Mode) -> Reader
-    ensures { λ r. ⌜ r ≡ entered mode reader ⌝ }
-{
-    let place = reader.place;
-    Reader { place, mode }
+    // The reader where it is, in another mode.
+    fn in_mode(self, mode: Mode) -> Reader
+        ensures { λ r. ⌜ r ≡ entered mode self ⌝ }
+    {
+        let place = self.place;
+        Reader { place, mode }
+    }
 }

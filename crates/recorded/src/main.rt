@@ -40,7 +40,7 @@ fn replay_on(text: &[u8], at: usize, src: &[u8]) -> Outcome {
 // Replays the record at the place. A last line with no LF was cut off, and is none.
 fn replay_record(text: &[u8], at: usize) -> Outcome {
     let mut src = io::buffer();
-    let source = hex_pairs::decode(text, at, &mut src);
+    let source = lines::decode(text, at, &mut src);
     let len = source.len;
     if len > 4096 {
         return outcomes::without_calls(false);

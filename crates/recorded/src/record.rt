@@ -20,7 +20,7 @@ pub(crate) fn read(text: &[u8], from: usize, out: &mut [u32]) -> Numbers
     let mut count = 0;
     let mut end = from;
     while count < out.len() {
-        let number = decimals::number_behind(text, end);
+        let number = lines::number_behind(text, end);
         if number.end == end {
             return Numbers { count, end };
         }

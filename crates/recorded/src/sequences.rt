@@ -57,7 +57,7 @@ fn replay_in(slots: usize, src: &[u8], script: &[u32], answers: &mut [u32]) -> b
     if slots > 4096 {
         return false;
     }
-    c_window::rattle_window(src, script, &mut room[..slots * 3], answers) == 0
+    c_functions::rattle_window(src, script, &mut room[..slots * 3], answers) == 0
 }
 
 // Replays a sequence with so many slots.

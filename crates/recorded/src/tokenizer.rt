@@ -24,7 +24,7 @@ fn is_recorded(token: Token, place: u32, kind: u32, recorded: u32) -> bool {
 fn is_none_left(src: &[u8], reader: Reader) -> bool {
     let place = reader.place;
     let mode = reader.mode;
-    match source_reading::next_at(src, place, mode) {
+    match source::next_at(src, place, mode) {
         Scan::End => true,
         Scan::Found(_, _) => false,
         Scan::Refused(_) => false,
@@ -42,7 +42,7 @@ fn is_same(recorded: &[u32], src: &[u8], opened: Reader) -> bool {
         }
         let place = reader.place;
         let mode = reader.mode;
-        let Scan::Found(token, next) = source_reading::next_at(src, place, mode) else {
+        let Scan::Found(token, next) = source::next_at(src, place, mode) else {
             return false;
         };
         if !is_recorded(token, place.0, recorded[at], recorded[second]) {

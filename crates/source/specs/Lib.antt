@@ -1,1 +1,3 @@
+-- A token source, and its next token.
 pub mod Sources
+pub mod Next

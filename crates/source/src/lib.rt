@@ -4,8 +4,14 @@ ghost use mathlib.Core.Path.{_≡_};
 ghost use Rattle.tokens.specs.declared.Mode.the-variants.{HexPattern, HexJump};
 ghost use Rattle.reader.specs.Reading.{open-of};
 ghost use Rattle.source.specs.Sources.{begun-by, opened-on, switched};
+
+mod reading;
+
 use reader::Opened;
 use reader::Reader;
+pub use reading::ScanGiven;
+pub use reading::next;
+pub use reading::next_at;
 use refusals::DoneAnswer;
 use tokens::Mode;
 use tokens::Offset;

@@ -1,7 +1,14 @@
 // The window: the next tokens of a source, looked ahead at and gone back to, in room that is lent. What it is, and how it is opened;
-// window_tests tests it, window_reading takes tokens of it, window_marks keeps its bookmarks, window_modes has its current index and its mode.
+// its calls stand in `reading`, `marks` and `modes`, and what they share in `tests` and `reaching`.
 ghost use mathlib.Core.Path.{_≡_};
 ghost use Rattle.window.specs.Window.{fresh, fresh-at, read-on, open-of, done-reply};
+
+mod marks;
+mod modes;
+mod reaching;
+mod reading;
+mod tests;
+
 use reader::Opened;
 use reader::Reader;
 use refusals::DoneAnswer;
@@ -82,7 +89,7 @@ impl Window {
     }
 
     // The window with another reader and number of tokens fetched.
-    pub fn read_on(self, reader: Reader, fetched: TokenIndex) -> Window
+    fn read_on(self, reader: Reader, fetched: TokenIndex) -> Window
         ensures { λ r. ⌜ r ≡ read-on reader (fetched .0) self ⌝ }
     {
         let mut moved = self;

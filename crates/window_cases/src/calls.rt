@@ -34,7 +34,7 @@ fn open(src: &[u8], room: &[u32]) -> Window {
 
 // The token n after the current one, for every n: a call by numbers has one of 32 bits.
 fn peek(w: Window, src: &[u8], room: &mut [u32], n: usize) -> Window {
-    let given = window_reading::peek_token(w, src, room, n);
+    let given = w.peek_token(src, room, n);
     let answer = given.answer;
     say::token_answer(answer);
     same::remark(w, given.window)
@@ -43,7 +43,7 @@ fn peek(w: Window, src: &[u8], room: &mut [u32], n: usize) -> Window {
 // Every other call.
 fn call(w: Window, asked: Asked, src: &[u8], room: &mut [u32]) -> Window {
     let n = lines::narrow(asked.first);
-    let given = window_asking::call(w, src, room, number(asked.letter), n);
+    let given = window_scripts::call(w, src, room, number(asked.letter), n);
     say::told(given.told);
     same::remark(w, given.window)
 }

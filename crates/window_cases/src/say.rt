@@ -5,7 +5,7 @@ use reader::Reader;
 use tokens::TokenIndex;
 use window::TokenAnswer;
 use window::Window;
-use window_asking::Told;
+use window_scripts::Told;
 
 // Bytes as they are.
 pub(crate) fn text(bytes: &[u8]) {

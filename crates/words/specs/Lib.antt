@@ -1,3 +1,7 @@
--- What the contracts and proofs of words cite.
+-- The laws of words and of keywords.
 pub mod Tail
 pub mod Digits
+pub mod Keywords
+pub mod Same
+pub mod Lengths
+pub mod Choosing

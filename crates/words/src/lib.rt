@@ -1,4 +1,7 @@
 // Words: how far letters, digits and underscores go on.
+mod keywords;
+
+pub use keywords::keyword;
 use patterns::Front;
 use utf8::decode_at;
 ghost use Prim.Native.Nat.{_+_};

@@ -4,7 +4,7 @@ use Prim.Native.Nat.{_≤_}
 use native.Mathlib.Omega.{arith}
 use lib.ListN.{length}
 use borrow.Author.Needs.{needs}
-use Rattle.decimals.specs.Decimals.{space}
+use Rattle.lines.specs.Decimals.{space}
 use Rattle.lines.specs.LineLaws.{next-within, next-behind, asked-by}
 use Rattle.lines.proofs.ask.Statement.{statement}
 use Rattle.lines.proofs.ask.Tie as tie

@@ -6,7 +6,7 @@ use native.Mathlib.Nat.{add-zero}
 use native.Mathlib.Omega.{arith}
 use borrow.Author.Needs.{needs}
 use lib.ListN.{length, drop, length-set}
-use Rattle.listing_form.specs.Put.{put, put-next, put-done}
+use Rattle.listing_text.specs.Put.{put, put-next, put-done}
 use Rattle.listing_text.proofs.put_bytes.Statement.{statement}
 use Rattle.listing_text.proofs.put_bytes.Tie as tie
 

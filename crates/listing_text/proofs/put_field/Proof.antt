@@ -2,8 +2,8 @@
 -- Assumes nothing.
 use native.Mathlib.Omega.{arith}
 use borrow.Author.Needs.{needs}
-use Rattle.listing_form.specs.Listing.{field}
-use Rattle.listing_form.specs.Put.{wrote-last}
+use Rattle.listing_text.specs.Listing.{field}
+use Rattle.listing_text.specs.Put.{wrote-last}
 use Rattle.listing_text.proofs.put_field.Statement.{statement}
 use Rattle.listing_text.proofs.put_field.Tie as tie
 

@@ -2,9 +2,9 @@
 -- Assumes nothing.
 use native.Mathlib.Omega.{arith}
 use borrow.Author.Needs.{needs}
-use Rattle.listing_form.specs.Listing.{head}
-use Rattle.listing_form.specs.Put.{wrote-both}
-use Rattle.listing_form.specs.Numbers.{length-field, length-head}
+use Rattle.listing_text.specs.Listing.{head}
+use Rattle.listing_text.specs.Put.{wrote-both}
+use Rattle.listing_text.specs.Numbers.{length-field, length-head}
 use Rattle.listing_text.proofs.put_head.Statement.{statement}
 use Rattle.listing_text.proofs.put_head.Tie as tie
 

@@ -3,9 +3,9 @@
 use native.Mathlib.Omega.{arith}
 use lib.ListN.{length-append}
 use borrow.Author.Needs.{needs}
-use Rattle.listing_form.specs.Listing.{line}
-use Rattle.listing_form.specs.Put.{wrote-both}
-use Rattle.listing_form.specs.Numbers.{length-field, length-line}
+use Rattle.listing_text.specs.Listing.{line}
+use Rattle.listing_text.specs.Put.{wrote-both}
+use Rattle.listing_text.specs.Numbers.{length-field, length-line}
 use Rattle.listing_text.proofs.put_line.Statement.{statement}
 use Rattle.listing_text.proofs.put_line.Tie as tie
 

@@ -8,7 +8,7 @@ use lib.ListN.{length}
 use Rattle.reader.specs.declared.Scan.the-variants.{Found}
 use Rattle.reader.specs.Following.{Sound, Onward, says, rest, rest-end, rest-more}
 use Rattle.reader.proofs.Answers.{at-end}
-use Rattle.listing_size.specs.Sizes.{count-fits}
+use Rattle.listing_text.specs.Sizes.{count-fits}
 use Rattle.listing_text.specs.Turns.{Writing, writing-start, count-line, room-line, writing-next, count-end, writing-end}
 use Rattle.listing_text.proofs.put_lines.Statement.{statement}
 use Rattle.listing_text.proofs.put_lines.Tie as tie

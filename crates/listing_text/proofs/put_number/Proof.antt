@@ -6,9 +6,9 @@ use mathlib.Core.List.{List}
 use native.Mathlib.Omega.{arith}
 use borrow.Author.Needs.{needs}
 use lib.ListN.{length, set, length-set}
-use Rattle.listing_form.specs.Listing.{digit, decimal}
-use Rattle.listing_form.specs.Put.{put, put-byte, put-last}
-use Rattle.listing_form.specs.Numbers.{decimal-one, decimal-more, length-one, length-more}
+use Rattle.listing_text.specs.Listing.{digit, decimal}
+use Rattle.listing_text.specs.Put.{put, put-byte, put-last}
+use Rattle.listing_text.specs.Numbers.{decimal-one, decimal-more, length-one, length-more}
 use Rattle.listing_text.proofs.put_number.Statement.{statement}
 use Rattle.listing_text.proofs.put_number.Tie as tie
 

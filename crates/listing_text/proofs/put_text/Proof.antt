@@ -9,9 +9,9 @@ use lib.ListN.{length}
 use lib.Seq.{slice}
 use Rattle.tokens.specs.declared.Token.{Token}
 use Rattle.reader.specs.Following.{rest}
-use Rattle.listing_form.specs.Listing.{lines, head, text}
-use Rattle.listing_form.specs.Put.{Wrote, wrote-up}
-use Rattle.listing_form.specs.Numbers.{length-head, head-least, text-parts, length-text}
+use Rattle.listing_text.specs.Listing.{lines, head, text}
+use Rattle.listing_text.specs.Put.{Wrote, wrote-up}
+use Rattle.listing_text.specs.Numbers.{length-head, head-least, text-parts, length-text}
 use Rattle.listing_text.proofs.put_text.Statement.{statement}
 use Rattle.listing_text.proofs.put_text.Tie as tie
 

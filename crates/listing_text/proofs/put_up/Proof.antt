@@ -7,7 +7,7 @@ use native.Mathlib.Omega.{arith}
 use borrow.Author.Needs.{needs}
 use lib.ListN.{length, take, drop, getD, set, length-set}
 use lib.Seq.{slice, slice-empty, length-slice, length-take-le, take-suc, take-set-le, drop-append-le}
-use Rattle.listing_form.specs.Put.{put, put-nil, put-last}
+use Rattle.listing_text.specs.Put.{put, put-nil, put-last}
 use Rattle.listing_text.proofs.put_up.Statement.{statement}
 use Rattle.listing_text.proofs.put_up.Tie as tie
 

@@ -1,2 +1,0 @@
--- What the C function of the listing answers and leaves (ListingOf).
-pub mod ListingOf

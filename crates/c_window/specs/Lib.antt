@@ -1,2 +1,0 @@
--- What the C function of the window leaves (WindowLeft).
-pub mod WindowLeft

@@ -1,2 +1,0 @@
--- From the longest match of a mode to the token.
-pub mod Choosing

@@ -1,2 +1,0 @@
--- The turns of the loop that asks for balance.
-pub mod BalanceLaws

@@ -1,3 +1,0 @@
--- What the calls on bookmarks leave (Parts), and their answers branch by branch (AnswerLaws).
-pub mod Parts
-pub mod AnswerLaws

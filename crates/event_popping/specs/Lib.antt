@@ -1,3 +1,0 @@
--- What a pop leaves (Parts), and its answers branch by branch (AnswerLaws).
-pub mod Parts
-pub mod AnswerLaws

@@ -1,3 +1,0 @@
--- What pushing an event is (Parts), and its answers branch by branch (AnswerLaws).
-pub mod Parts
-pub mod AnswerLaws

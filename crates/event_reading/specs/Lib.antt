@@ -1,2 +1,0 @@
--- Laws of what is read of a ring, turn by turn.
-pub mod ReadingLaws

@@ -1,0 +1,2 @@
+-- The laws of operators and of the other signs.
+pub mod HexByte

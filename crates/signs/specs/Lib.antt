@@ -1,2 +1,0 @@
--- The hex bytes, by two nibbles.
-pub mod HexByte

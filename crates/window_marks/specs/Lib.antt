@@ -1,2 +1,0 @@
--- The laws by which the calls on bookmarks are met.
-pub mod MarkLaws

@@ -1,2 +1,0 @@
--- What a switch comes to, and its law.
-pub mod SwitchLaws
