@@ -57,9 +57,12 @@ fresh = fresh-at (record { place = record { 0 = 0 }; mode = Normal })
 abbrev pub start : List ℕ → List ℕ → State
 start src room = state (fresh (length src) (slots-in (length room))) room
 
--- refused opening gives back a window for an empty source and no room
+-- Refused opening gives back a window for a source over the limit, which every later call refuses by 24.
+abbrev pub unopened : Window
+unopened = fresh (source-limit + 1) 0
+
 abbrev pub open-of : List ℕ → List ℕ → Reply State
-open-of src room = cond (leb (length src) source-limit) (reply done (start src room)) (reply (refused 1) (state (fresh 0 0) room))
+open-of src room = cond (leb (length src) source-limit) (reply done (start src room)) (reply (refused 1) (state unopened room))
 
 -- Refusal 24 is given where one of these fails, in the order of its row in document 01's table: the source within the limit; the
 -- source and W as at opening; the bookmarks held in order, and none of them above the number fetched; nor the current index; not

@@ -1,7 +1,7 @@
 // The window: the next tokens of a source, looked ahead at and gone back to, in room that is lent. What it is, and how it is opened;
 // its calls stand in `reading`, `marks` and `modes`, and what they share in `tests` and `reaching`.
 ghost use mathlib.Core.Path.{_≡_};
-ghost use Rattle.window.specs.Window.{fresh, fresh-at, read-on, open-of, done-reply};
+ghost use Rattle.window.specs.Window.{fresh-at, unopened, read-on, open-of, done-reply};
 
 mod marks;
 mod modes;
@@ -11,6 +11,7 @@ mod tests;
 
 use reader::Opened;
 use reader::Reader;
+use reader::SOURCE_LIMIT;
 use refusals::DoneAnswer;
 use refusals::Refusal;
 use tokens::Mode;
@@ -49,8 +50,8 @@ pub enum IndexAnswer {
     Refused(Refusal),
 }
 
-// Each answer with the window after it. A refused call gives back the window as it was; refused opening, one for an empty source and
-// no room.
+// Each answer with the window after it. A refused call gives back the window as it was; refused opening, one that every later call refuses
+// by 24.
 pub struct TokenGiven {
     pub answer: TokenAnswer,
     pub window: Window,
@@ -83,7 +84,7 @@ impl Window {
             },
             Opened::Refused(refusal) => DoneGiven {
                 answer: DoneAnswer::Refused(refusal),
-                window: nothing(),
+                window: unopened(),
             },
         }
     }
@@ -116,13 +117,13 @@ fn fresh(reader: Reader, bytes: u32, slots: usize) -> Window
     }
 }
 
-// The window beside refusal 1: one for an empty source and no room.
-fn nothing() -> Window
-    ensures { λ r. ⌜ r ≡ fresh 0 0 ⌝ }
+// The window beside refusal 1: one for a source over the limit, which no later call takes.
+fn unopened() -> Window
+    ensures { λ r. ⌜ r ≡ unopened ⌝ }
 {
     let reader = Reader {
         place: Offset(0),
         mode: Mode::Normal,
     };
-    fresh(reader, 0, 0)
+    fresh(reader, SOURCE_LIMIT as u32 + 1, 0)
 }

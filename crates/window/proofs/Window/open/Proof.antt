@@ -30,8 +30,8 @@ fresh-requires c κs = search needs
 enum-known-refusal : tie.Need-enum-known-refusal
 enum-known-refusal c = search needs
 
-nothing-requires : tie.Need-nothing-requires
-nothing-requires c κs = search needs
+unopened-requires : tie.Need-unopened-requires
+unopened-requires c κs = search needs
 
 returns : tie.Need-returns
 returns c =
@@ -43,7 +43,7 @@ returns-2 : tie.Need-returns-2
 returns-2 c =
     let a = c .before .before .before .before .before .before .before .args in
     not-ready (a .src .now) (a .room .now) _ _ (sym (c .before .before .refusal .given .1) ∙ c .before .before .before .before .«open» .ensures)
-    (c .nothing .ensures)
+    (c .unopened .ensures)
 
 pub open-spec : {M : Type 1} → statement M
 open-spec =
@@ -55,6 +55,6 @@ open-spec =
     slots-requires
     fresh-requires
     enum-known-refusal
-    nothing-requires
+    unopened-requires
     returns
     returns-2)
