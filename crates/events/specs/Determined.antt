@@ -6,8 +6,7 @@ use mathlib.Core.List.{List}
 use Rattle.patterns.specs.Determined.{Once, once}
 use Rattle.refusals.specs.declared.DoneAnswer.{DoneAnswer}
 use Rattle.refusals.specs.declared.DoneAnswer.the-variants as of-done
-use Rattle.refusals.specs.Refusals.{named}
-use Rattle.refusals.specs.RefusalLaws.{read-back}
+use Rattle.refusals.specs.RefusalLaws.{read-refusal, read-back}
 use Rattle.event_record.specs.Record.{Answer, done, none, position, event, refused, at}
 use Rattle.events.specs.declared.PositionAnswer.{PositionAnswer}
 use Rattle.events.specs.declared.PositionAnswer.the-variants as of-position
@@ -24,7 +23,7 @@ done-read done = of-done.Done
 done-read none = of-done.Done
 done-read (position p) = of-done.Done
 done-read (event y) = of-done.Done
-done-read (refused n) = of-done.Refused (named n)
+done-read (refused n) = of-done.Refused (read-refusal n)
 
 pub done-same : (a : DoneAnswer) → done-read (done-told a) ≡ a
 done-same of-done.Done = refl
@@ -41,7 +40,7 @@ position-read done = of-position.Position (at 0)
 position-read none = of-position.Position (at 0)
 position-read (position p) = of-position.Position p
 position-read (event y) = of-position.Position (at 0)
-position-read (refused n) = of-position.Refused (named n)
+position-read (refused n) = of-position.Refused (read-refusal n)
 
 position-same : (a : PositionAnswer) → position-read (position-told a) ≡ a
 position-same (of-position.Position p) = refl
@@ -58,7 +57,7 @@ event-read done = of-event.None
 event-read none = of-event.None
 event-read (position p) = of-event.None
 event-read (event y) = of-event.Event y
-event-read (refused n) = of-event.Refused (named n)
+event-read (refused n) = of-event.Refused (read-refusal n)
 
 event-same : (a : EventAnswer) → event-read (event-told a) ≡ a
 event-same (of-event.Event y) = refl

@@ -15,8 +15,8 @@ use Rattle.tokens.specs.ScanLaws.{Step, scan-found}
 use Rattle.tokens.specs.ListLaws.{tile-count, enough, list-step, list-tiles, first-count, first-ends}
 use Rattle.reader.specs.declared.Reader.{Reader}
 use Rattle.reader.specs.declared.Scan.{Scan}
-use Rattle.reader.specs.declared.Scan.the-variants.{End, Found, Refused}
-use Rattle.reader.specs.Reading.{source-limit, moved, scan-of, Ahead, ahead}
+use Rattle.reader.specs.Reading.{source-limit, Answer, moved, scan-of, scan-told, Ahead, ahead}
+use Rattle.reader.specs.Reading as reading
 
 -- a source and a reader that a scan takes
 pub record Sound (src : List ℕ) (r : Reader) : Type 0 where
@@ -30,10 +30,15 @@ pub record Onward (src : List ℕ) (r : Reader) (x : Token) (next : Reader) : Ty
   pub further : r .place .0 < next .place .0
   pub sound : Sound src next
 
-abbrev pub Says : List ℕ → Reader → Scan → Type 0
-Says src r End = scan tables-1 src (r .place .0) (r .mode) ≡ scanned.End
-Says src r (Found x next) = Onward src r x next
-Says src r (Refused n) = ⊥
+abbrev pub Ends : List ℕ → Reader → Type 0
+Ends src r = scan tables-1 src (r .place .0) (r .mode) ≡ scanned.End
+
+-- what a scan's answer says; a reader that can scan is not refused
+abbrev pub Says : List ℕ → Reader → Answer → Type 0
+Says src r (reading.ready q) = ⊥
+Says src r reading.end = Ends src r
+Says src r (reading.found x next) = Onward src r x next
+Says src r (reading.refused n) = ⊥
 
 -- all tokens that are left from a reader on
 abbrev pub rest : List ℕ → Reader → List Token
@@ -52,7 +57,7 @@ module _ (src : List ℕ) (r : Reader) where
   rest-step : (y : Scanned) → scan tables-1 src (r .place .0) (r .mode) ≡ y → rest src r ≡ (onto y (r .mode) (λ e m. list-from tables-1 src e m)) .tokens
   rest-step y e = rw (← e) (ap (λ l. l .tokens) (list-step tables-1 src (r .place .0) (r .mode)))
 
-  pub rest-end : Says src r End → rest src r ≡ []
+  pub rest-end : Ends src r → rest src r ≡ []
   rest-end e = rest-step scanned.End e
 
   pub rest-more : (x : Token) (next : Reader) → Onward src r x next → rest src r ≡ x ∷ rest src next
@@ -62,7 +67,7 @@ module _ (src : List ℕ) (r : Reader) where
   unfolding ahead
   ahead-none = refl
 
-  pub ahead-end : Says src r End → (n : ℕ) → ahead n src r ≡ still r
+  pub ahead-end : Ends src r → (n : ℕ) → ahead n src r ≡ still r
   unfolding ahead
   ahead-end e zero = refl
   ahead-end e (suc n) = rw e
@@ -92,8 +97,7 @@ module _ (src : List ℕ) (r : Reader) where
     pub rest-most : r .place .0 + length (rest src r) ≤ length src
     rest-most = tile-count (r .place .0) (length src) (rest src r) (list-tiles tables-1 src (r .place .0) (r .mode) (h .inside))
 
-    -- what a scan's answer says
-    pub says : (y : Scan) → y ≡ scan-of src r → Says src r y
+    pub says : (y : Scan) → scan-told y ≡ scan-of src r → Says src r (scan-told y)
     says y e =
         rw (e, le-leb (length src) source-limit (h .limit), le-leb (r .place .0) (length src) (h .inside))
         (moved-says (scan tables-1 src (r .place .0) (r .mode)) refl)

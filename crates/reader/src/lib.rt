@@ -2,7 +2,7 @@
 // scanner) behind a token.
 ghost use mathlib.Core.Path.{_≡_};
 ghost use Rattle.tokens.specs.declared.Mode.the-variants.{HexPattern, HexJump};
-ghost use Rattle.reader.specs.Reading.{open-of, entered};
+ghost use Rattle.reader.specs.Reading.{open-of, opened-told, entered};
 
 mod scanning;
 
@@ -36,7 +36,7 @@ pub enum Scan {
 impl Reader {
     // A reader at the start of a source, in normal mode.
     pub fn open(src: &[u8]) -> Opened
-        ensures { λ r. ⌜ r ≡ open-of (now (src .entry)) ⌝ }
+        ensures { λ r. ⌜ opened-told r ≡ open-of (now (src .entry)) ⌝ }
     {
         if SOURCE_LIMIT < src.len() {
             return Opened::Refused(Refusal::SourceTooLong);

@@ -1,6 +1,6 @@
 // The scanner: one token for each call, in three modes.
 ghost use mathlib.Core.Path.{_≡_};
-ghost use Rattle.reader.specs.Reading.{scan-of};
+ghost use Rattle.reader.specs.Reading.{scan-of, scan-told};
 use crate::Reader;
 use crate::SOURCE_LIMIT;
 use crate::Scan;
@@ -11,7 +11,7 @@ use tokens::Token;
 impl Reader {
     // The token at the reader's place, and the reader that goes on.
     pub fn scan(self, src: &[u8]) -> Scan
-        ensures { λ r. ⌜ r ≡ scan-of (now (src .entry)) self ⌝ }
+        ensures { λ r. ⌜ scan-told r ≡ scan-of (now (src .entry)) self ⌝ }
     {
         if SOURCE_LIMIT < src.len() {
             return Scan::Refused(Refusal::NotAsOpened);

@@ -7,8 +7,7 @@ use mathlib.Core.List.{List}
 use Rattle.patterns.specs.Determined.{Once, once}
 use Rattle.refusals.specs.declared.DoneAnswer.{DoneAnswer}
 use Rattle.refusals.specs.declared.DoneAnswer.the-variants as of-done
-use Rattle.refusals.specs.Refusals.{named}
-use Rattle.refusals.specs.RefusalLaws.{read-back}
+use Rattle.refusals.specs.RefusalLaws.{read-refusal, read-back}
 use Rattle.token_record.specs.Record.{Answer, token, none, truth, index, done, refused}
 use Rattle.window.specs.declared.TokenAnswer.{TokenAnswer}
 use Rattle.window.specs.declared.TokenAnswer.the-variants as of-token
@@ -29,7 +28,7 @@ token-read none = of-token.None
 token-read (truth b) = of-token.None
 token-read (index i) = of-token.None
 token-read done = of-token.None
-token-read (refused n) = of-token.Refused (named n)
+token-read (refused n) = of-token.Refused (read-refusal n)
 
 token-same : (a : TokenAnswer) → token-read (token-told a) ≡ a
 token-same (of-token.Token x) = refl
@@ -48,7 +47,7 @@ more-read none = of-more.More false
 more-read (truth b) = of-more.More b
 more-read (index i) = of-more.More false
 more-read done = of-more.More false
-more-read (refused n) = of-more.Refused (named n)
+more-read (refused n) = of-more.Refused (read-refusal n)
 
 more-same : (a : MoreAnswer) → more-read (more-told a) ≡ a
 more-same (of-more.More b) = refl
@@ -66,7 +65,7 @@ index-read none = of-index.Index (record { 0 = 0 })
 index-read (truth b) = of-index.Index (record { 0 = 0 })
 index-read (index i) = of-index.Index i
 index-read done = of-index.Index (record { 0 = 0 })
-index-read (refused n) = of-index.Refused (named n)
+index-read (refused n) = of-index.Refused (read-refusal n)
 
 index-same : (a : IndexAnswer) → index-read (index-told a) ≡ a
 index-same (of-index.Index i) = refl
@@ -84,7 +83,7 @@ done-read none = of-done.Done
 done-read (truth b) = of-done.Done
 done-read (index i) = of-done.Done
 done-read done = of-done.Done
-done-read (refused n) = of-done.Refused (named n)
+done-read (refused n) = of-done.Refused (read-refusal n)
 
 pub done-same : (a : DoneAnswer) → done-read (done-told a) ≡ a
 done-same of-done.Done = refl
