@@ -12,17 +12,17 @@ use Rattle.patterns.specs.Bools.{and-first, and-second}
 use Rattle.patterns.specs.Determined.{Once, once}
 use Rattle.tokens.specs.declared.Token.{Token}
 use Rattle.tokens.specs.declared.TokenIndex.{TokenIndex}
-use Rattle.refusals.specs.declared.Refusal.the-variants.{WindowFull, NotAsOpened}
+use Rattle.refusals.specs.Calls.{reply}
+use Rattle.refusals.specs.RefusalLaws.{read-refusal, read-back}
 use Rattle.reader.specs.declared.Reader.{Reader}
-use Rattle.reader.specs.declared.Scan.the-variants.{End}
 use Rattle.reader.specs.Reading.{source-limit, sound, Ahead, ahead}
-use Rattle.reader.specs.Following.{Sound, Onward, Says, rest, still, ahead-none, ahead-end, ahead-more, ahead-count, rest-end, rest-more, rest-most}
+use Rattle.reader.specs.Following.{Sound, Onward, Ends, rest, still, ahead-none, ahead-end, ahead-more, ahead-count, rest-end, rest-more, rest-most}
 use Rattle.token_room.specs.Room.{nth, write, write-all}
 use Rattle.token_room.specs.RoomLaws.{length-write}
 use Rattle.fetching.specs.declared.Stored.{Stored}
 use Rattle.fetching.specs.declared.Fetched.{Fetched}
 use Rattle.fetching.specs.declared.Fetched.the-variants.{Upto, Refused}
-use Rattle.fetching.specs.Fetching.{outcome, stored, fetched}
+use Rattle.fetching.specs.Fetching.{Answer, upto, refused, stored, fetched, fetched-told, outcome}
 
 -- What storing comes to, from the index i on: where it ends, and the room.
 abbrev pub storing : Ahead → List ℕ → ℕ → Stored × List ℕ
@@ -62,7 +62,7 @@ module _ {src : List ℕ} {r₀ : Reader} {room₀ : List ℕ} {i₀ n₀ : ℕ}
       let q = sym (storing-none r room i) ∙ ap (λ a. storing a room i) (sym e) ∙ h .same in
       (ap (λ y. y .0) q, ap (λ y. y .1) q)
 
-  pub storing-end : Says src r End → All-stored
+  pub storing-end : Ends src r → All-stored
   storing-end e = all-stored (ahead-end src r e n)
 
   pub storing-done : n ≤ 0 → All-stored
@@ -88,7 +88,7 @@ pub record Counting (src : List ℕ) (r₀ : Reader) (n : ℕ) (r : Reader) (k :
   pub counted : length (rest src r₀) + k ≡ length (rest src r) + n
 
 module _ {src : List ℕ} {r₀ : Reader} {n : ℕ} {r : Reader} {k : ℕ} (h : Counting src r₀ n r k) where
-  pub counting-end : Says src r End → false ≡ ltb n (length (rest src r₀))
+  pub counting-end : Ends src r → false ≡ ltb n (length (rest src r₀))
   counting-end e =
       let z : length (rest src r) ≡ 0 = ap length (rest-end src r e) in
       sym (le-ltb n (length (rest src r₀)) (omega (arith, h .counted)))
@@ -144,21 +144,29 @@ module _ (src : List ℕ) (r : Reader) (first : TokenIndex) where
 
 -- The cases of the answer.
 module _ (src : List ℕ) (r : Reader) (room : List ℕ) (first : TokenIndex) (need spare : ℕ) where
-  pub fetched-unsound : Is-sound src r first false → outcome (Refused NotAsOpened) room ≡ fetched src r room first need spare
+  pub fetched-unsound : Is-sound src r first false → reply (refused 24) room ≡ fetched src r room first need spare
   unfolding fetched
   fetched-unsound h = rw (← h)
 
   module _ (h : Is-sound src r first true) where
-    pub fetched-none : false ≡ leb (length ((ahead need src r) .tokens)) spare → outcome (Refused WindowFull) room ≡ fetched src r room first need spare
+    pub fetched-none : false ≡ leb (length ((ahead need src r) .tokens)) spare → reply (refused 2) room ≡ fetched src r room first need spare
     unfolding fetched
     fetched-none q = rw (← h, ← q)
 
     pub fetched-all : true ≡ leb (length ((ahead need src r) .tokens)) spare
         → {s : Stored} → s ≡ stored first (ahead need src r) → {after : List ℕ} → after ≡ write-all room (first .0) ((ahead need src r) .tokens)
-        → outcome (Upto (s .reader) (s .next)) after ≡ fetched src r room first need spare
+        → reply (upto (s .reader) (s .next)) after ≡ fetched src r room first need spare
     unfolding fetched
     fetched-all q e f = rw (← h, ← q, e, f)
 
--- two results that meet the contract are equal
+-- The contract leaves no choice: an answer can be read back from what it is told by.
+abbrev fetched-read : Answer → Fetched
+fetched-read (upto r i) = Upto r i
+fetched-read (refused n) = Refused (read-refusal n)
+
+fetched-same : (g : Fetched) → fetched-read (fetched-told g) ≡ g
+fetched-same (Upto r i) = refl
+fetched-same (Refused n) = ap Refused (read-back n)
+
 pub fetched-once : Once (λ (p : Fetched × List ℕ). outcome (p .0) (p .1))
-fetched-once = once _ (λ o. (o .answer, o .room)) (λ p. refl)
+fetched-once = once _ (λ r. (fetched-read (r .answer), r .after)) (λ p. ap (λ (g : Fetched). (g, p .1)) (fetched-same (p .0)))

@@ -27,7 +27,7 @@ returns : tie.Need-returns Inv-loop μ-loop
 returns c =
     let s = c .before in
     let h = s .before .before .loop .inv in
-    counting-end h (at-end (h .sound) (s .scan .ensures) (c .match .keys2))
+    counting-end h (at-end (h .sound) (s .scan .result) (s .scan .ensures) (c .match .keys2))
 
 sub-left : tie.Need-sub-left Inv-loop μ-loop
 sub-left c = search needs
@@ -57,7 +57,7 @@ returns-3 : tie.Need-returns-3 Inv-loop μ-loop
 returns-3 c =
     let s = c .before in
     let h = s .before .before .loop .inv in
-    counting-end h (at-end (h .sound) (s .scan2 .ensures) (c .match2 .keys2))
+    counting-end h (at-end (h .sound) (s .scan2 .result) (s .scan2 .ensures) (c .match2 .keys2))
 
 pub has-more-than-spec : {M : Type 1} → statement M
 has-more-than-spec =

@@ -29,7 +29,7 @@ returns : tie.Need-returns Inv-loop μ-loop
 returns c =
     let s = c .before in
     let h = s .before .before .loop .inv in
-    storing-end h (at-end (h .sound) (s .scan .ensures) (c .match .keys2))
+    storing-end h (at-end (h .sound) (s .scan .result) (s .scan .ensures) (c .match .keys2))
 
 write-requires : tie.Need-write-requires Inv-loop μ-loop
 write-requires c κs = search needs
