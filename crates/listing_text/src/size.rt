@@ -3,6 +3,7 @@ ghost use Prim.Native.Nat.{_≤_};
 ghost use mathlib.Core.Path.{_≡_};
 ghost use lib.ListN.{length};
 ghost use lib.Dec.{leb};
+ghost use Rattle.reader.specs.Reading.{opened-told};
 ghost use Rattle.reader.specs.Following.{Sound, rest};
 ghost use Rattle.listing_text.specs.Listing.{line, head, text};
 ghost use Rattle.listing_text.specs.Fitting.{fitting};
@@ -15,7 +16,7 @@ use tokens::Token;
 
 // Opens a source for a listing of at most `room` bytes: refused too where the listing is longer.
 pub(crate) fn open_fitting(src: &[u8], room: usize) -> Opened
-    ensures { λ r. ⌜ r ≡ fitting (now (src .entry)) room ⌝ }
+    ensures { λ r. ⌜ opened-told r ≡ fitting (now (src .entry)) room ⌝ }
 {
     match Reader::open(src) {
         Opened::Ready(start) => {

@@ -1,6 +1,6 @@
 -- One scan after the other. At the end no token is ahead of a reader; else the token that a scan finds, and those that are ahead of
 -- the reader behind it. From the scanner's promise and the laws of the definition's scan. Assumes nothing.
-use Prim.Native.Nat.{ℕ, zero, suc, min, _+_, _≤_, _<_}
+use Prim.Native.Nat.{ℕ, zero, suc, min, _+_, _≤_, _<_, zero-le}
 use mathlib.Core.Path.{_≡_, refl, ap}
 use mathlib.Core.List.{List, [], _∷_}
 use native.Mathlib.Omega.{arith}
@@ -15,13 +15,21 @@ use Rattle.tokens.specs.ScanLaws.{Step, scan-found}
 use Rattle.tokens.specs.ListLaws.{tile-count, enough, list-step, list-tiles, first-count, first-ends}
 use Rattle.reader.specs.declared.Reader.{Reader}
 use Rattle.reader.specs.declared.Scan.{Scan}
-use Rattle.reader.specs.Reading.{source-limit, Answer, moved, scan-of, scan-told, Ahead, ahead}
+use Rattle.reader.specs.Reading.{source-limit, Answer, start, open-of, moved, scan-of, scan-told, Ahead, ahead}
 use Rattle.reader.specs.Reading as reading
+use Rattle.reader.specs.ReaderLaws.{opened-ready}
 
 -- a source and a reader that a scan takes
 pub record Sound (src : List ℕ) (r : Reader) : Type 0 where
   pub limit : length src ≤ source-limit
   pub inside : r .place .0 ≤ length src
+
+-- the start of a source within the limit, and the reader that opening gives
+pub start-sound : {src : List ℕ} → length src ≤ source-limit → Sound src start
+start-sound h = record { limit = h; inside = zero-le }
+
+pub opened-sound : (src : List ℕ) {r : Reader} → reading.ready r ≡ open-of src → Sound src r
+opened-sound src e = let o = opened-ready src e in rw (o .1) (start-sound (o .0))
 
 -- a token found, and the reader behind it
 pub record Onward (src : List ℕ) (r : Reader) (x : Token) (next : Reader) : Type 0 where
@@ -30,6 +38,7 @@ pub record Onward (src : List ℕ) (r : Reader) (x : Token) (next : Reader) : Ty
   pub further : r .place .0 < next .place .0
   pub sound : Sound src next
 
+-- no token is left
 abbrev pub Ends : List ℕ → Reader → Type 0
 Ends src r = scan tables-1 src (r .place .0) (r .mode) ≡ scanned.End
 

@@ -26,7 +26,7 @@ use Rattle.window.specs.WindowLaws.{fetch-none}
 use Rattle.window.specs.Determined.{done-read, done-same}
 use Rattle.window.specs.declared.reaching.Reached.{Reached}
 use Rattle.window.specs.Reaching.{reach, reached}
-use Rattle.window.specs.ReachingParts.{turned}
+use Rattle.window.specs.ReachingParts.{gathered, turned}
 
 -- from the limit on, every number of tokens is all of them
 ahead-most : (src : List ℕ) (r : Reader) (k : ℕ) → length src ≤ source-limit → ahead (min k source-limit) src r ≡ ahead k src r
@@ -60,7 +60,7 @@ module _ (src : List ℕ) (s : State) where
         rw (le-leb _ _ (f .limit), le-leb _ _ (f .inside), le-leb _ _ (f .fetched-low))
 
     reached-fetched : (n : ℕ)
-        → turned (s .window) (fetched src (s .window .reader) (s .room) (s .window .fetched) (beyond n) (s .window .slots - kept (s .window)))
+        → turned (s .window) (gathered (s .window .reader) (s .window .fetched) (fetched src (s .window .reader) (s .room) (s .window .fetched) (beyond n) (s .window .slots - kept (s .window))))
         ≡ reach src n s
     unfolding fetched reach fetch
     reached-fetched n =
@@ -82,14 +82,15 @@ module _ (src : List ℕ) (s : State) where
     -- as many as are wanted beyond those ready, which are fetched and not taken
     pub reached-by : (n need spare : ℕ) → s .window .fetched .0 - s .window .current .0 ≤ n
         → need ≡ min (n - (s .window .fetched .0 - s .window .current .0) + 1) source-limit → spare ≡ s .window .slots - kept (s .window)
-        → turned (s .window) (fetched src (s .window .reader) (s .room) (s .window .fetched) need spare) ≡ reach src (suc n) s
+        → turned (s .window) (gathered (s .window .reader) (s .window .fetched) (fetched src (s .window .reader) (s .room) (s .window .fetched) need spare))
+        ≡ reach src (suc n) s
     reached-by n need spare h p q =
         let w = s .window in
         let k : n - (w .fetched .0 - w .current .0) + 1 ≡ beyond (suc n) = omega (arith, f .current-low) in
         let most : fetched src (w .reader) (s .room) (w .fetched) need spare
         ≡ fetched src (w .reader) (s .room) (w .fetched) (beyond (suc n)) (w .slots - kept w) =
         rw (p, q, k) (fetched-most src (w .reader) (s .room) (w .fetched) (beyond (suc n)) (w .slots - kept w) (f .limit)) in
-        ap (turned w) most ∙ reached-fetched (suc n)
+        ap (λ o. turned w (gathered (w .reader) (w .fetched) o)) most ∙ reached-fetched (suc n)
 
 -- The contract of reaching leaves no choice: what it came to can be read back.
 pub reached-once : (w : Window) → Once (λ (p : Reached × List ℕ). done-reply (reached w (p .0)) (p .1))

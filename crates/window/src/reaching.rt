@@ -7,7 +7,7 @@ ghost use Rattle.fetching.specs.Fetching.{fetched};
 ghost use Rattle.window.specs.Window.{state, done-reply};
 ghost use Rattle.window.specs.SoundLaws.{Fit};
 ghost use Rattle.window.specs.Reaching.{reach, reached};
-ghost use Rattle.window.specs.ReachingParts.{still, gathered};
+ghost use Rattle.window.specs.ReachingParts.{still, reached-told, gathered};
 use crate::Window;
 use fetching::Fetched;
 use reader::Reader;
@@ -72,7 +72,7 @@ fn gather(
     need: usize,
     spare: usize,
 ) -> Reached
-    ensures { λ r. ⌜ (r, now (room .exit)) ≡ gathered reader first (fetched (now (src .entry)) reader (now (room .entry)) first need spare) ⌝ }
+    ensures { λ r. ⌜ reached-told r (now (room .exit)) ≡ gathered reader first (fetched (now (src .entry)) reader (now (room .entry)) first need spare) ⌝ }
 {
     match fetching::fetch(src, reader, room, first, need, spare) {
         Fetched::Upto(behind, next) => Reached {

@@ -1,13 +1,11 @@
 -- `listing_text::measure` meets its contract. The loop's invariant: the tokens so far and those that are left are all, and so are the
 -- bytes of their lines. Assumes nothing.
 use Prim.Native.Nat.{_-_}
-use mathlib.Core.Path.{sym, _∙_}
 use borrow.Author.Needs.{needs}
 use native.Mathlib.Omega.{arith}
 use lib.ListN.{length}
-use Rattle.reader.specs.declared.Scan.the-variants.{Found}
-use Rattle.reader.specs.Following.{Sound, Onward, says, rest, rest-end, rest-more}
-use Rattle.reader.proofs.Answers.{at-end}
+use Rattle.reader.specs.Following.{Sound, Onward, rest, rest-end, rest-more}
+use Rattle.reader.proofs.Answers as answers
 use Rattle.listing_text.specs.Sizes.{count-fits, lines-fit}
 use Rattle.listing_text.specs.Measuring.{Measured, measured-start, measured-next, measured-end}
 use Rattle.listing_text.proofs.size.measure.Statement.{statement}
@@ -26,7 +24,7 @@ onward c =
     let t = c .before .token .given in
     let s = c .before .before .before in
     let l = s .before .loop in
-    says (s .before .before .before .args .src .now) (l .reader) (l .inv .0) (Found (t .0 .0) (t .0 .1 .0)) (sym (t .1) ∙ s .scan .ensures)
+    answers.onward (l .inv .0) (s .scan .ensures) (t .1)
 
 loop-holds : tie.Need-loop-holds Inv-loop μ-loop
 loop-holds c = (c .before .pre, measured-start)
@@ -51,7 +49,7 @@ returns c =
     let s = c .before .before in
     let l = s .before .loop in
     let src = s .before .before .before .args .src .now in
-    let e = rest-end src (l .reader) (at-end (l .inv .0) (s .scan .ensures) (c .before .match .keys2)) in
+    let e = rest-end src (l .reader) (answers.at-end (l .inv .0) (s .scan .result) (s .scan .ensures) (c .before .match .keys2)) in
     measured-end e (l .inv .1) (c .head-len .ensures .0)
 
 add-tokens : tie.Need-add-tokens Inv-loop μ-loop

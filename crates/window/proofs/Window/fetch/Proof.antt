@@ -2,13 +2,11 @@
 -- Assumes nothing.
 use Prim.Native.Nat.{ℕ, _-_}
 use mathlib.Core.Path.{_≡_, ap, _∙_}
-use mathlib.Core.List.{List}
 use borrow.Author.Needs.{needs}
 use native.Mathlib.Omega.{arith}
-use Rattle.window.specs.Window.{state, kept, done-reply}
+use Rattle.window.specs.Window.{state, kept}
 use Rattle.window.specs.TestLaws.{kept-in-order}
-use Rattle.window.specs.declared.reaching.Reached.{Reached}
-use Rattle.window.specs.Reaching.{reached}
+use Rattle.window.specs.ReachingParts.{turned}
 use Rattle.window.specs.ReachingLaws.{reached-now, reached-by}
 use Rattle.window.proofs.Window.fetch.Statement.{statement}
 use Rattle.window.proofs.Window.fetch.Tie as tie
@@ -58,7 +56,7 @@ returns-2 c =
     let a = start k in
     let w = a .args .self in
     let spare = ap (λ (n : ℕ). w .slots - n) (kept-is k) in
-    ap (λ (p : Reached × List ℕ). done-reply (reached w (p .0)) (p .1)) (g .gather .ensures)
+    ap (turned w) (g .gather .ensures)
     ∙ reached-by (a .args .src .now) (state w (a .args .room .now)) (a .pre) (a .args .n) _ _ (k .before .before .before .if1 .left)
     (g .before .needed .ensures) spare
 
