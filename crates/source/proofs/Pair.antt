@@ -26,9 +26,12 @@ use denote.Struct.Declared as SD
 use denote.Struct.Laws as LL
 use denote.Struct.Rest.{own-shut}
 use Rattle.walks.specs.Steps.{slice-ty, cell, room, at-local}
+use Rattle.refusals.specs.Calls.{Reply, reply}
 use Rattle.reader.specs.declared.Reader.{Reader}
+use Rattle.reader.specs.Reading.{Answer}
 use Rattle.reader.proofs.Reader as R
 use Rattle.reader.proofs.Reader.Laws as R′
+use Rattle.source.specs.declared.Source.{Source}
 use Rattle.source.specs.Sources.{source-at}
 use Rattle.source.proofs.Source as S
 use Rattle.source.proofs.Source.Laws as S′
@@ -39,6 +42,10 @@ abbrev paired : ℕ → ℕ → ℕ → Body
 paired i j k =
     seq (assign (place k []) (aggregate (copy (place i []) ∷ copy (place j (field 1 ∷ field 0 ∷ [])) ∷ copy (place j (field 1 ∷ field 1 ∷ [])) ∷ [])))
     (seq (assign (place 0 []) (aggregate (copy (place j (field 0 ∷ [])) ∷ copy (place k []) ∷ []))) return)
+
+-- what is told of them, of what is told of what the covered call gave
+abbrev pub paired-told : RefT (List ℕ) → Reply Answer Reader → Reply Answer Source
+paired-told s p = reply (p .answer) (source-at s (p .after))
 
 module _ (An : ED.Declared) (AL : LL.FLaws (ED.field An)) (plain : LL.Plain (ED.field An)) where
   -- a struct of an answer and a field, as the pair of the two: its declaration, its type and its machine value

@@ -1,3 +1,4 @@
 -- A token source, and its next token.
 pub mod Sources
 pub mod Next
+pub mod Determined

@@ -2,8 +2,9 @@
 // hands its reader on. They are proved by walks of their code. The next token is asked for in crate source_reading.
 ghost use mathlib.Core.Path.{_≡_};
 ghost use Rattle.tokens.specs.declared.Mode.the-variants.{HexPattern, HexJump};
-ghost use Rattle.reader.specs.Reading.{open-of};
-ghost use Rattle.source.specs.Sources.{begun-by, opened-on, switched};
+ghost use Rattle.refusals.specs.Calls.{reply};
+ghost use Rattle.reader.specs.Reading.{start, open-of};
+ghost use Rattle.source.specs.Sources.{opened-on, switched, open-reply, begun-reply};
 
 mod reading;
 
@@ -37,7 +38,7 @@ struct Begun {
 
 // A source at the start of its bytes, in normal mode.
 pub fn open<'a>(src: &'a [u8]) -> OpenGiven<'a>
-    ensures { λ r. ⌜ r ≡ opened-on (src .entry) ⌝ }
+    ensures { λ r. ⌜ open-reply r ≡ opened-on (src .entry) ⌝ }
 {
     let begun = begin(src);
     OpenGiven {
@@ -86,7 +87,7 @@ pub fn enter_hex_jump_mode<'a>(source: Source<'a>) -> Source<'a>
 
 // Opening, and the reader at the start.
 fn begin(src: &[u8]) -> Begun
-    ensures { λ r. ⌜ r ≡ begun-by (open-of (now (src .entry))) ⌝ }
+    ensures { λ r. ⌜ begun-reply r ≡ reply (open-of (now (src .entry))) start ⌝ }
 {
     let opened = Reader::open(src);
     match opened {

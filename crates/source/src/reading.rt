@@ -1,8 +1,8 @@
 // The next token of a token source. `next` takes the source apart and hands slice, place and mode to the scanner; it is proved by a walk of its
 // code. `next_at` serves callers that want none.
 ghost use mathlib.Core.Path.{_≡_};
-ghost use Rattle.reader.specs.Reading.{scan-of};
-ghost use Rattle.source.specs.Next.{stepped-by, next-of};
+ghost use Rattle.reader.specs.Reading.{scan-of, scan-told};
+ghost use Rattle.source.specs.Next.{stepped-by, next-of, next-reply, step-reply};
 use crate::Source;
 use reader::Reader;
 use reader::Scan;
@@ -23,7 +23,7 @@ struct Stepped {
 
 // The token at the source's place, and the source that goes on.
 pub fn next<'a>(source: Source<'a>) -> ScanGiven<'a>
-    ensures { λ r. ⌜ r ≡ next-of (source .entry) ⌝ }
+    ensures { λ r. ⌜ next-reply r ≡ next-of (source .entry) ⌝ }
 {
     let src = source.src;
     let reader = Reader {
@@ -43,7 +43,7 @@ pub fn next<'a>(source: Source<'a>) -> ScanGiven<'a>
 
 // A source made of plain parts and asked for its next token.
 pub fn next_at(src: &[u8], place: Offset, mode: Mode) -> Scan
-    ensures { λ r. ⌜ r ≡ scan-of (now (src .entry)) (record { place = place; mode = mode }) ⌝ }
+    ensures { λ r. ⌜ scan-told r ≡ scan-of (now (src .entry)) (record { place = place; mode = mode }) ⌝ }
 {
     let given = next(Source { src, place, mode });
     given.answer
@@ -51,7 +51,7 @@ pub fn next_at(src: &[u8], place: Offset, mode: Mode) -> Scan
 
 // A scan, and the reader behind it.
 fn step(src: &[u8], reader: Reader) -> Stepped
-    ensures { λ r. ⌜ r ≡ stepped-by reader (scan-of (now (src .entry)) reader) ⌝ }
+    ensures { λ r. ⌜ step-reply r ≡ stepped-by reader (scan-of (now (src .entry)) reader) ⌝ }
 {
     let answer = reader.scan(src);
     let after = match answer {

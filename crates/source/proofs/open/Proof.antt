@@ -26,16 +26,17 @@ use denote.Triple.Spec.{tripleOf}
 use denote.Triple.Table.{entered, cited}
 use Rattle.walks.specs.Steps.{gone}
 use Rattle.walks.specs.Contracts.{spelled, answered, returned}
+use Rattle.refusals.specs.Calls.{reply}
 use Rattle.refusals.proofs.DoneAnswer as An
 use Rattle.refusals.proofs.DoneAnswer.Laws as An′
-use Rattle.reader.specs.Reading.{open-of}
+use Rattle.reader.specs.Reading.{start, open-of}
 use Rattle.source.specs.declared.OpenGiven.{OpenGiven}
 use Rattle.source.specs.declared.Begun.{Begun}
-use Rattle.source.specs.Sources.{source-at, begun-by}
+use Rattle.source.specs.Sources.{source-at, begun-reply}
 use Rattle.source.proofs.Begun as P
 use Rattle.source.proofs.Begun.Laws as P′
 use Rattle.source.proofs.Held.{slice-val, OwnBytes, IsBytes, lends}
-use Rattle.source.proofs.Pair.{pairs}
+use Rattle.source.proofs.Pair.{pairs, paired-told}
 use Rattle.source.proofs.begin as begin
 use Rattle.source.proofs.begin.Symbol as begin-def
 use Rattle.source.proofs.begin.Met as begin-thm
@@ -66,11 +67,11 @@ module _ {M : Type 1} (𝓤 : URA M) (H : Heap 𝓤) (A : Atoms 𝓤) (mem : Mem
         alloc1 ! (λ l₀. alloc1 ! (λ l₁. alloc1 ! (λ l₂. alloc1 ! (λ l₃. alloc0 ! $ params1 ! $ pass1 ! (init ! 4 refl (shr-slice-lawful 𝓤 H A W (named 0) κ u8 .typed s _ b .0)) $ pass0 ! $
         -- [room for _3; …; room for _2; …; _1; …; room for _0; …; the token and what the bytes own]
         move ! (8 ∷ []) $ use1 W (raw (Begin .pre y) ⊛ ‵ (OwnBytes κ s)) (lends 𝓤 H A W κ q s ftrue (id⊢ 𝓤 _)) $ split ! $ calls-at ! (fmOf 𝓤 H (W .laws) 𝓣) Begin known y (and-then ! (load ! (from ! (stop !)) (look ! 6 refl)) (no-more !))
-        (answered W begin.ended (begin.clauses 𝓤 H A mem run) y (LL.val P.the-type P′.the-laws) (LL.tells P.the-type P′.the-laws) (λ p. p ≡ begun-by (open-of (s .now))) (λ p z. id⊢ 𝓤 _) (λ p e is.
+        (answered W begin.ended (begin.clauses 𝓤 H A mem run) y (LL.val P.the-type P′.the-laws) (LL.tells P.the-type P′.the-laws) (λ p. begun-reply p ≡ reply (open-of (s .now)) start) (λ p z. id⊢ 𝓤 _) (λ p e is.
         -- [the token; what the bytes own; room for _3; …; room for _2; …; _1; …; room for _0; …]
         move ! (0 ∷ 1 ∷ 6 ∷ 4 ∷ 2 ∷ 8 ∷ []) $ pairs An.the-type An′.the-field-laws An′.the-field-plain κ s (p .answer) (p .reader) W _ _ b is 1 2 3 refl refl refl $
         gone ! 5 refl 8 refl $ gone ! 2 refl 6 refl $ gone ! 2 refl 4 refl $ gone ! 2 refl 2 refl $ free0 ! $
-        by ! (returned W thin.ended (thin.clauses 𝓤 H A mem run) y _ (made p) (tt, tt) (emp∗ 𝓤 _) (factI 𝓤 _ _ (ap made e)))))))))
+        by ! (returned W thin.ended (thin.clauses 𝓤 H A mem run) y _ (made p) (tt, tt) (emp∗ 𝓤 _) (factI 𝓤 _ _ (ap (paired-told s) e)))))))))
 
 pub open-spec : {M : Type 1} → stated.statement M
 unfolding code.routine tablesOf

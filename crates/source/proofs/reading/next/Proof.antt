@@ -29,13 +29,13 @@ use Rattle.source.specs.declared.Source.{Source}
 use Rattle.source.specs.declared.reading.ScanGiven.{ScanGiven}
 use Rattle.source.specs.declared.reading.Stepped.{Stepped}
 use Rattle.source.specs.Sources.{reader-of, source-at}
-use Rattle.source.specs.Next.{stepped-by}
+use Rattle.source.specs.Next.{stepped-by, step-reply}
 use Rattle.source.proofs.reading.ScanGiven as G
 use Rattle.source.proofs.reading.Stepped as P
 use Rattle.source.proofs.reading.Stepped.Laws as P′
 use Rattle.source.proofs.Held.{named-a, source-struct, source-laws, slice-val, reader-val, source-val, OwnBytes, OwnReader, Had, IsSource, its-bytes, its-reader, reader-had, lends}
 use Rattle.source.proofs.Steps.{takes-apart, takes}
-use Rattle.source.proofs.Pair.{pairs}
+use Rattle.source.proofs.Pair.{pairs, paired-told}
 use Rattle.source.proofs.reading.step as step
 use Rattle.source.proofs.reading.step.Symbol as step-def
 use Rattle.source.proofs.reading.step.Met as step-thm
@@ -71,11 +71,11 @@ module _ {M : Type 1} (𝓤 : URA M) (H : Heap 𝓤) (A : Atoms 𝓤) (mem : Mem
         -- [room for _0; …; _1; …; _2; …; _3; …; room for _4; …; _5; …; _6; …; room for _7; …; the token and what the bytes own]
         move ! (16 ∷ []) $ use1 W (raw (Step .pre to) ⊛ ‵ (OwnBytes κ (d .src))) (lends 𝓤 H A W κ q (d .src) (OwnReader (reader-of d)) (reader-had 𝓤 H A W (reader-of d) (its-reader κ d i))) $ split ! $
         calls-at ! (fmOf 𝓤 H (W .laws) 𝓣) Step known to (and-then ! (load ! (from ! (stop !)) (look ! 6 refl)) (and-then ! (load ! (from ! (stop !)) (look ! 8 refl)) (no-more !)))
-        (answered W step.ended (step.clauses 𝓤 H A mem run) to (LL.val P.the-type P′.the-laws) (LL.tells P.the-type P′.the-laws) (λ p. p ≡ stepped-by (reader-of d) (scan-of (d .src .now) (reader-of d))) (λ p z. id⊢ 𝓤 _) (λ p e is.
+        (answered W step.ended (step.clauses 𝓤 H A mem run) to (LL.val P.the-type P′.the-laws) (LL.tells P.the-type P′.the-laws) (λ p. step-reply p ≡ stepped-by (reader-of d) (scan-of (d .src .now) (reader-of d))) (λ p z. id⊢ 𝓤 _) (λ p e is.
         -- [the token; what the bytes own; room for _0; …]
         move ! (0 ∷ 1 ∷ 6 ∷ 10 ∷ 16 ∷ 2 ∷ []) $ pairs An.the-type An′.the-field-laws An′.the-field-plain κ (d .src) (p .answer) (p .reader) W _ _ (its-bytes κ d i) is 2 4 7 refl refl refl $
         gone ! 5 refl 5 refl $ gone ! 5 refl 5 refl $ gone ! 2 refl 4 refl $ gone ! 4 refl 4 refl $ gone ! 2 refl 3 refl $ gone ! 3 refl 3 refl $ gone ! 3 refl 3 refl $ gone ! 2 refl 2 refl $ free0 ! $
-        by ! (returned W thin.ended (thin.clauses 𝓤 H A mem run) y _ (made p) (tt, tt) (emp∗ 𝓤 _) (factI 𝓤 _ _ (ap made e)))))))))))))
+        by ! (returned W thin.ended (thin.clauses 𝓤 H A mem run) y _ (made p) (tt, tt) (emp∗ 𝓤 _) (factI 𝓤 _ _ (ap (paired-told (d .src)) e)))))))))))))
 
 pub next-spec : {M : Type 1} → stated.statement M
 unfolding code.routine tablesOf

@@ -45,7 +45,7 @@ use Rattle.reader.proofs.Reader as R
 use Rattle.reader.proofs.Reader.Laws as R′
 use Rattle.source.specs.declared.Source.{Source}
 use Rattle.source.specs.Sources.{source-at}
-use Rattle.source.specs.Next.{next-of}
+use Rattle.source.specs.Next.{next-of, next-reply}
 use Rattle.source.proofs.Source as S
 use Rattle.source.proofs.Source.Laws as S′
 use Rattle.source.proofs.reading.ScanGiven as G
@@ -106,7 +106,7 @@ module _ {M : Type 1} (𝓤 : URA M) (H : Heap 𝓤) (A : Atoms 𝓤) (mem : Mem
         assigns ! (agg ! (and-then ! (load ! (from ! (stop !)) (look ! 8 refl)) (and-then ! (load ! (from ! (stop !)) (look ! 6 refl)) (and-then ! (load ! (from ! (stop !)) (look ! 4 refl)) (no-more !))))) (from ! (stop !))
         (init ! 0 refl (LL.lawful (S.the-type (local-a κ)) (S′.the-laws (local-a κ)) 𝓤 H A W .typed d _ (is-source κ s r b i) .0)) $
         move ! (12 ∷ []) $ use1 W (raw (Next .pre to)) goes $ calls-at ! (fmOf 𝓤 H (W .laws) 𝓣) Next known to (and-then ! (load ! (from ! (stop !)) (look ! 1 refl)) (no-more !))
-        (answered W next.ended (next.clauses 𝓤 H A mem run) to (LL.val given-struct given-laws) (LL.tells given-struct given-laws) (λ g. g ≡ next-of d) (λ g z. id⊢ 𝓤 _) (λ g e is. let ia = LL.owed given-struct given-laws g _ is .0 in
+        (answered W next.ended (next.clauses 𝓤 H A mem run) to (LL.val given-struct given-laws) (LL.tells given-struct given-laws) (λ g. next-reply g ≡ next-of d) (λ g z. id⊢ 𝓤 _) (λ g e is. let ia = LL.owed given-struct given-laws g _ is .0 in
         -- [the token; _5; …; room for _4; …; _3; …; _2; …; _1; …; room for _0; …]
         land ! (from ! (stop !)) (init ! 3 refl (LL.lawful given-struct given-laws 𝓤 H A W .typed g _ is .0)) $
         assigns ! (of-opd ! (load ! (from ! (fld ! refl (stop !))) (look-in ! 3 (sub ! 0 refl (whole !))))) (from ! (stop !)) (init ! 11 refl (EL.lawful An.the-type An′.the-laws 𝓤 H A W tt .typed (g .answer) _ ia .0)) $

@@ -2,10 +2,12 @@
 -- Assumes nothing.
 use mathlib.Core.Path.{_≡_, refl, ap, sym, _∙_}
 use borrow.Author.Needs.{needs}
+use Rattle.refusals.specs.Calls.{reply}
 use Rattle.reader.specs.declared.Reader.{Reader}
 use Rattle.reader.specs.declared.Scan.{Scan}
+use Rattle.reader.specs.Reading.{Answer, scan-told}
 use Rattle.source.specs.declared.reading.Stepped.{Stepped}
-use Rattle.source.specs.Next.{reached, stepped-by}
+use Rattle.source.specs.Next.{reached, stepped-by, step-reply}
 use Rattle.source.proofs.reading.step.Statement.{statement}
 use Rattle.source.proofs.reading.step.Tie as tie
 
@@ -13,8 +15,8 @@ use Rattle.source.proofs.reading.step.Tie as tie
 abbrev kept-at : Reader → Scan → Stepped
 kept-at r a = record { answer = a; reader = r }
 
-kept : (r : Reader) (a b told : Scan) → a ≡ told → reached r told ≡ r → a ≡ b → kept-at r a ≡ stepped-by r b
-kept r a b told is stays e = ap (λ q. kept-at q a) (sym stays ∙ ap (reached r) (sym is)) ∙ ap (stepped-by r) e
+kept : (r : Reader) (a : Scan) (b : Answer) (told : Scan) → a ≡ told → reached r (scan-told told) ≡ r → scan-told a ≡ b → step-reply (kept-at r a) ≡ stepped-by r b
+kept r a b told is stays e = ap (λ q. reply (scan-told a) q) (sym stays ∙ ap (λ y. reached r (scan-told y)) (sym is)) ∙ ap (stepped-by r) e
 
 scan-requires : tie.Need-scan-requires
 scan-requires c κs = search needs
@@ -30,7 +32,7 @@ enum-told-2 c = search needs
 
 returns : tie.Need-returns
 returns c =
-    ap (stepped-by (c .before .before .before .before .before .args .reader)) (sym (c .before .answer .given .1) ∙ c .before .before .before .scan .ensures)
+    ap (stepped-by (c .before .before .before .before .before .args .reader)) (ap scan-told (sym (c .before .answer .given .1)) ∙ c .before .before .before .scan .ensures)
 
 returns-2 : tie.Need-returns-2
 returns-2 c = kept _ _ _ _ (c .enum-told .given .1) refl (c .before .before .scan .ensures)
