@@ -5,17 +5,18 @@ ghost use Rattle.event_room.specs.Room.{slot-of, write, read};
 use crate::read;
 use crate::write;
 use event_record::Event;
+use event_record::Position;
 use rooms::Slot;
 
 // The slot of the event at a position in a ring of so many slots: from the front on, and round the end.
-pub fn slot_of(slots: usize, front: Slot, i: usize) -> Slot
-    ensures { λ r. ⌜ r ≡ slot-of slots front i ⌝ }
+pub fn slot_of(slots: usize, front: Slot, i: Position) -> Slot
+    ensures { λ r. ⌜ r ≡ slot-of slots front (i .0) ⌝ }
 {
     let ahead = slots_ahead(slots, front);
-    if i < ahead {
-        Slot(front.0 + i)
+    if i.0 < ahead {
+        Slot(front.0 + i.0)
     } else {
-        Slot(i - ahead)
+        Slot(i.0 - ahead)
     }
 }
 
@@ -27,15 +28,15 @@ fn slots_ahead(slots: usize, front: Slot) -> usize
 }
 
 // The event at a position.
-pub fn event_at(room: &[u32], slots: usize, front: Slot, i: usize) -> Event
-    ensures { λ r. ⌜ r ≡ read (now (room .entry)) (slot-of slots front i) ⌝ }
+pub fn event_at(room: &[u32], slots: usize, front: Slot, i: Position) -> Event
+    ensures { λ r. ⌜ r ≡ read (now (room .entry)) (slot-of slots front (i .0)) ⌝ }
 {
     read(room, slot_of(slots, front, i))
 }
 
 // Writes the event at a position.
-pub fn put(room: &mut [u32], slots: usize, front: Slot, i: usize, event: Event)
-    ensures { λ r. ⌜ now (room .exit) ≡ write (now (room .entry)) (slot-of slots front i) event ⌝ }
+pub fn put(room: &mut [u32], slots: usize, front: Slot, i: Position, event: Event)
+    ensures { λ r. ⌜ now (room .exit) ≡ write (now (room .entry)) (slot-of slots front (i .0)) event ⌝ }
 {
     write(room, slot_of(slots, front, i), event);
 }

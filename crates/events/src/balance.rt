@@ -8,17 +8,18 @@ ghost use Rattle.event_room.specs.Room.{listed};
 use event_record::BEGIN;
 use event_record::END;
 use event_record::Event;
+use event_record::Position;
 use rooms::Slot;
 
 // Whether the events from a position on balance among themselves, of so many that there are.
-pub(crate) fn is_balanced(room: &[u32], front: Slot, from: usize, count: usize) -> bool
-    ensures { λ r. ⌜ r ≡ balanced 0 (drop from (listed (now (room .entry)) front 0 count)) ⌝ }
+pub(crate) fn is_balanced(room: &[u32], front: Slot, from: Position, count: usize) -> bool
+    ensures { λ r. ⌜ r ≡ balanced 0 (drop (from .0) (listed (now (room .entry)) front 0 count)) ⌝ }
 {
     let slots = event_room::slots(room.len());
     let mut depth: usize = 0;
-    let mut i = from;
+    let mut i = from.0;
     while i < count {
-        let event = event_room::event_at(room, slots, front, i);
+        let event = event_room::event_at(room, slots, front, Position(i));
         if is_unmatched(depth, event) {
             return false;
         }

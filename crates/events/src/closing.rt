@@ -12,6 +12,7 @@ use event_record::BEGIN;
 use event_record::END;
 use event_record::ERROR_KIND;
 use event_record::Event;
+use event_record::Position;
 use event_record::Span;
 use refusals::Refusal;
 use tokens::Offset;
@@ -48,7 +49,7 @@ impl Stream {
             return self.refused(Refusal::NothingOpen);
         }
         let place = self.opened - 1;
-        let inner = opens[place];
+        let inner = Position(opens[place]);
         let begin = event_room::event_at(&*room, self.slots, self.front, inner);
         self.close(room, inner, begin.span.start.0, begin.kind)
     }
@@ -62,20 +63,20 @@ impl Stream {
             return self.refused(Refusal::NothingOpen);
         }
         let place = self.opened - 1;
-        let inner = opens[place];
-        if inner + 1 == self.count {
+        let inner = Position(opens[place]);
+        if inner.0 + 1 == self.count {
             let last = self.last;
-            return self.counted(inner, place, last);
+            return self.counted(inner.0, place, last);
         }
         let begin = event_room::event_at(&*room, self.slots, self.front, inner);
         self.close(room, inner, begin.span.start.0, ERROR_KIND)
     }
 
     // The Begin at a position gets a start, a kind, and as its end the last token's; its End follows behind all events.
-    fn close(self, room: &mut [u32], inner: usize, start: u32, kind: u32) -> DoneGiven
+    fn close(self, room: &mut [u32], inner: Position, start: u32, kind: u32) -> DoneGiven
         requires { ⌜ (0 < self .opened) × (self .count < self .slots) ⌝ }
         ensures { λ r. ⌜ (r ≡ done-with (counting (self .count + 1) (self .opened - 1) (self .last) self))
-            × (now (room .exit) ≡ closing-from start kind inner self (now (room .entry))) ⌝ }
+            × (now (room .exit) ≡ closing-from start kind (inner .0) self (now (room .entry))) ⌝ }
     {
         let last = self.last;
         let span = span_of(start, last.end.0);
@@ -90,7 +91,7 @@ impl Stream {
             span,
         };
         event_room::put(room, self.slots, self.front, inner, opening);
-        event_room::put(room, self.slots, self.front, self.count, ending);
+        event_room::put(room, self.slots, self.front, Position(self.count), ending);
         self.counted(self.count + 1, self.opened - 1, last)
     }
 }

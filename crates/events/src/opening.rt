@@ -7,6 +7,7 @@ use crate::DoneGiven;
 use crate::Stream;
 use event_record::BEGIN;
 use event_record::Event;
+use event_record::Position;
 use event_record::Span;
 use refusals::Refusal;
 use tokens::Offset;
@@ -45,7 +46,7 @@ impl Stream {
         };
         let place = self.opened;
         opens[place] = self.count;
-        event_room::put(room, self.slots, self.front, self.count, event);
+        event_room::put(room, self.slots, self.front, Position(self.count), event);
         self.counted(self.count + 1, place + 1, last)
     }
 }

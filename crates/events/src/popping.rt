@@ -11,6 +11,7 @@ use crate::EventAnswer;
 use crate::EventGiven;
 use crate::Stream;
 use event_record::Event;
+use event_record::Position;
 use event_record::TOKEN;
 use refusals::Refusal;
 
@@ -53,7 +54,7 @@ impl Stream {
         ensures { λ r. ⌜ r ≡ passing (slot-at self 1) (gone-after event (self .gone)) self ⌝ }
     {
         let front = self.front;
-        let next = event_room::slot_of(self.slots, front, 1);
+        let next = event_room::slot_of(self.slots, front, Position(1));
         let mut left = self;
         left.front = next;
         left.count = self.count - 1;

@@ -11,6 +11,7 @@ use crate::SPAN_LIMIT;
 use crate::Stream;
 use event_record::ERROR;
 use event_record::Event;
+use event_record::Position;
 use event_record::Span;
 use event_record::TOKEN;
 use refusals::Refusal;
@@ -65,7 +66,7 @@ impl Stream {
         if self.spare() < 1 {
             self.refused(Refusal::EventsFull)
         } else {
-            event_room::put(room, self.slots, self.front, self.count, event);
+            event_room::put(room, self.slots, self.front, Position(self.count), event);
             self.counted(self.count + 1, self.opened, last)
         }
     }

@@ -2,6 +2,7 @@
 ghost use mathlib.Core.Path.{_≡_};
 ghost use Rattle.event_record.specs.Record.{last-token};
 ghost use Rattle.event_room.specs.Room.{listed};
+use event_record::Position;
 use event_record::Span;
 use event_record::TOKEN;
 use rooms::Slot;
@@ -14,7 +15,7 @@ pub(crate) fn last_token(room: &[u32], front: Slot, count: usize, gone: Span) ->
     let mut left = count;
     while 0 < left {
         left -= 1;
-        let event = event_room::event_at(room, slots, front, left);
+        let event = event_room::event_at(room, slots, front, Position(left));
         if event.tag == TOKEN {
             return event.span;
         }

@@ -7,6 +7,7 @@ ghost use Rattle.events.specs.SoundLaws.{begun};
 ghost use Rattle.events.specs.TestLaws.{within};
 use crate::Stream;
 use event_record::BEGIN;
+use event_record::Position;
 
 impl Stream {
     // Whether the stream is one over these rooms. Here and below `&` and `|` ask both sides: neither can fail.
@@ -41,8 +42,8 @@ impl Stream {
             return true;
         }
         let place = self.opened - 1;
-        let inner = opens[place];
-        (inner < self.count)
+        let inner = Position(opens[place]);
+        (inner.0 < self.count)
             & (event_room::event_at(room, self.slots, self.front, inner).tag == BEGIN)
     }
 }

@@ -44,7 +44,7 @@ impl Stream {
         ensures { λ r. ⌜ ((opens : List ℕ) → Fit (state self (now (room .entry)) opens) → done-reply r (now (room .entry)) opens ≡ answered (truncate-call from) (state self (now (room .entry)) opens)) ⌝ }
     {
         let front = self.front;
-        if balance::is_balanced(room, front, from.0, self.count) {
+        if balance::is_balanced(room, front, from, self.count) {
             let gone = self.gone;
             let last = reading::last_token(room, front, from.0, gone);
             self.counted(from.0, self.opened, last)

@@ -14,14 +14,15 @@ add-t7 c = search needs
 
 returns : tie.Need-returns
 returns c =
-    let s = c .before .before in
+    let s = c .before .before .before .before in
     let a = s .before .args in
-    sym (slot-ahead (a .slots) (a .front) (a .i) (s .slots-ahead .ensures) (c .before .if1 .taken))
+    sym (slot-ahead (a .slots) (a .front) (a .i .0) (s .slots-ahead .ensures) (c .before .before .if1 .taken))
 
 returns-2 : tie.Need-returns-2
 returns-2 c =
-    let a = c .before .before .args in
-    sym (slot-behind (a .slots) (a .front) (a .i) (c .before .slots-ahead .ensures) (c .if1 .left))
+    let s = c .before .before .before in
+    let a = s .before .args in
+    sym (slot-behind (a .slots) (a .front) (a .i .0) (s .slots-ahead .ensures) (c .before .if1 .left))
 
 pub slot-of-spec : {M : Type 1} → statement M
 slot-of-spec = tie.close (tie.spec slots-ahead-requires add-t7 returns returns-2)

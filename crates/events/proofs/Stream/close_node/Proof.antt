@@ -18,11 +18,11 @@ returns c = rw (c .refused .ensures) (nothing-open _ (c .before .before .before 
 sub-place : tie.Need-sub-place
 sub-place c = search needs
 
-mul-inner : tie.Need-mul-inner
-mul-inner c = search needs
+mul-t9 : tie.Need-mul-t9
+mul-t9 c = search needs
 
-shared-slice-read-inner : tie.Need-shared-slice-read-inner
-shared-slice-read-inner c = search needs
+shared-slice-read-t11 : tie.Need-shared-slice-read-t11
+shared-slice-read-t11 c = search needs
 
 event-at-requires : tie.Need-event-at-requires
 event-at-requires c κs = search needs
@@ -47,8 +47,8 @@ close-node-spec =
     refused-requires
     returns
     sub-place
-    mul-inner
-    shared-slice-read-inner
+    mul-t9
+    shared-slice-read-t11
     event-at-requires
     close-requires
     same-length

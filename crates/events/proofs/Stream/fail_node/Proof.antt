@@ -18,16 +18,16 @@ returns c = rw (c .refused .ensures) (nothing-open _ (c .before .before .before 
 sub-place : tie.Need-sub-place
 sub-place c = search needs
 
-mul-inner : tie.Need-mul-inner
-mul-inner c = search needs
+mul-t10 : tie.Need-mul-t10
+mul-t10 c = search needs
 
-shared-slice-read-inner : tie.Need-shared-slice-read-inner
-shared-slice-read-inner c = search needs
+shared-slice-read-t12 : tie.Need-shared-slice-read-t12
+shared-slice-read-t12 c = search needs
 
 add-if2 : tie.Need-add-if2
 add-if2 c =
-    let s = c .before .before .before .before .before .before in
-    omega (arith, s .pre .inner-inside (omega (arith, c .before .before .if1 .left)))
+    let s = c .before .before .before .before .before .before .before in
+    omega (arith, s .pre .inner-inside (omega (arith, c .before .before .before .if1 .left)))
 
 counted-requires : tie.Need-counted-requires
 counted-requires c κs = search needs
@@ -35,8 +35,8 @@ counted-requires c κs = search needs
 returns-2 : tie.Need-returns-2
 returns-2 c =
     let i = c .before .before in
-    let s = i .before .before .before .before .before .before .before .before in
-    rw (c .counted .ensures) (node-dropped _ (s .pre) (omega (arith, i .before .before .before .before .if1 .left)) (i .if2 .taken))
+    let s = i .before .before .before .before .before .before .before .before .before in
+    rw (c .counted .ensures) (node-dropped _ (s .pre) (omega (arith, i .before .before .before .before .before .if1 .left)) (i .if2 .taken))
 
 event-at-requires : tie.Need-event-at-requires
 event-at-requires c κs = search needs
@@ -51,9 +51,9 @@ returns-3 : tie.Need-returns-3
 returns-3 c =
     let e = c .before .before .close .ensures in
     let i = c .before .before .before .before .before .before in
-    let s = i .before .before .before .before .before .before .before .before in
+    let s = i .before .before .before .before .before .before .before .before .before in
     rw (e .0, e .1, c .before .before .before .before .event-at .ensures)
-    (node-failed _ (s .pre) (omega (arith, i .before .before .before .before .if1 .left)) (i .if2 .left))
+    (node-failed _ (s .pre) (omega (arith, i .before .before .before .before .before .if1 .left)) (i .if2 .left))
 
 pub fail-node-spec : {M : Type 1} → statement M
 fail-node-spec =
@@ -62,8 +62,8 @@ fail-node-spec =
     refused-requires
     returns
     sub-place
-    mul-inner
-    shared-slice-read-inner
+    mul-t10
+    shared-slice-read-t12
     add-if2
     counted-requires
     returns-2

@@ -12,12 +12,12 @@ use Rattle.events.proofs.balance.is_balanced.Statement.{statement}
 use Rattle.events.proofs.balance.is_balanced.Tie as tie
 
 abbrev Inv-loop : tie.InvT-loop
-Inv-loop room front from count slots depth₀ i₀ depth i =
+Inv-loop room front count slots depth₀ i₀ depth i =
     (depth ≤ i) × (slots ≡ slots-in (length room))
-    × (balanced depth (listed room front i (count - i)) ≡ balanced 0 (drop from (listed room front 0 count)))
+    × (balanced depth (listed room front i (count - i)) ≡ balanced 0 (drop i₀ (listed room front 0 count)))
 
 abbrev μ-loop : tie.MeasureT-loop
-μ-loop room front from count slots depth₀ i₀ depth i = count - i
+μ-loop room front count slots depth₀ i₀ depth i = count - i
 
 slots-requires : tie.Need-slots-requires Inv-loop μ-loop
 slots-requires c κs = search needs
@@ -25,7 +25,7 @@ slots-requires c κs = search needs
 loop-holds : tie.Need-loop-holds Inv-loop μ-loop
 loop-holds c =
     let a = c .before .before .args in
-    (search needs, c .slots .ensures, balanced-start (a .room .now) (a .front) 0 (a .from) (a .count))
+    (search needs, c .slots .ensures, balanced-start (a .room .now) (a .front) 0 (a .from .0) (a .count))
 
 event-at-requires : tie.Need-event-at-requires Inv-loop μ-loop
 event-at-requires c κs = search needs
