@@ -25,7 +25,7 @@ impl Reader {
             return Scan::End;
         }
         let mode = self.mode;
-        let choice = rules::taken(mode, src, at);
+        let choice = rules::taken(mode, src, place);
         let end = Offset((at + choice.len) as u32);
         let reached = choice.mode;
         Scan::Found(

@@ -15,11 +15,13 @@ mod spacing;
 use patterns::Front;
 use tokens::Choice;
 use tokens::Mode;
+use tokens::Offset;
 
 // What is taken at a place, in a mode.
-pub fn taken(mode: Mode, src: &[u8], at: usize) -> Choice
-    ensures { λ r. ⌜ r ≡ choose tables-1 (tried mode) (drop at (now (src .entry))) ⌝ }
+pub fn taken(mode: Mode, src: &[u8], at: Offset) -> Choice
+    ensures { λ r. ⌜ r ≡ choose tables-1 (tried mode) (drop (at .0) (now (src .entry))) ⌝ }
 {
+    let at = at.0 as usize;
     match mode {
         Mode::Normal => normal(src, at),
         Mode::HexPattern => pattern(src, at),

@@ -9,6 +9,9 @@ use borrow.Author.Needs.{needs}
 use Rattle.rules.proofs.taken.Statement.{statement}
 use Rattle.rules.proofs.taken.Tie as tie
 
+cast-at : tie.Need-cast-at
+cast-at c = search needs
+
 enum-told : tie.Need-enum-told
 enum-told c = search needs
 
@@ -29,23 +32,24 @@ jump-requires c κs = search needs
 
 returns : tie.Need-returns
 returns c =
-    let a = c .before .before .before .before .args in
-    c .normal .ensures ∙ ap (λ (m : Mode). choose tables-1 (tried m) (drop (a .at) (a .src .now))) (sym (c .before .enum-told .given .1))
+    let a = c .before .before .before .before .before .args in
+    c .normal .ensures ∙ ap (λ (m : Mode). choose tables-1 (tried m) (drop (a .at .0) (a .src .now))) (sym (c .before .enum-told .given .1))
 
 returns-2 : tie.Need-returns-2
 returns-2 c =
-    let a = c .before .before .before .before .args in
-    c .pattern .ensures ∙ ap (λ (m : Mode). choose tables-1 (tried m) (drop (a .at) (a .src .now))) (sym (c .before .enum-told2 .given .1))
+    let a = c .before .before .before .before .before .args in
+    c .pattern .ensures ∙ ap (λ (m : Mode). choose tables-1 (tried m) (drop (a .at .0) (a .src .now))) (sym (c .before .enum-told2 .given .1))
 
 returns-3 : tie.Need-returns-3
 returns-3 c =
-    let a = c .before .before .before .before .args in
-    c .jump .ensures ∙ ap (λ (m : Mode). choose tables-1 (tried m) (drop (a .at) (a .src .now))) (sym (c .before .enum-told3 .given .1))
+    let a = c .before .before .before .before .before .args in
+    c .jump .ensures ∙ ap (λ (m : Mode). choose tables-1 (tried m) (drop (a .at .0) (a .src .now))) (sym (c .before .enum-told3 .given .1))
 
 pub taken-spec : {M : Type 1} → statement M
 taken-spec =
     tie.close
     (tie.spec
+    cast-at
     enum-told
     normal-requires
     enum-told-2
