@@ -12,3 +12,4 @@ pub mod Proceeding
 pub mod ProceedingLaws
 pub mod MarkLaws
 pub mod SwitchLaws
+pub mod Taking
