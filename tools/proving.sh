@@ -163,8 +163,8 @@ proving() { # LOG CRATE COMMAND WORD..
 
 # Prints the line of a log that says best why rt failed.
 reason() { # LOG
-    awk '/Permission denied|Read-only file system|No space left on device/ && !system { system = $0 }
+    awk '/Permission denied|Read-only file system|No space left on device/ && !denied { denied = $0 }
         /^rt: .*(NOT PROVED|FAILED \(|was not run)/ && !first { first = $0 }
         { last = $0 }
-        END { print (system ? system : first ? first : last) }' "$1"
+        END { print (denied ? denied : first ? first : last) }' "$1"
 }
