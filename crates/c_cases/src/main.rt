@@ -1,9 +1,11 @@
-// Calls each C function at its borders, as a C program would. The file stdin has the cases, a line each; the file stdout has the same lines, and
-// below each what document 01 says: the answer, with the number that is lent beside room, and then all that is lent, in the order of the parameters.
+// Calls each C function at its borders, as a C program would. The file stdin has the cases, a line each; the file stdout has the same
+// lines, and below each what document 01 says: the answer, with the number that is lent beside room, and then all that is lent, in the
+// order of the parameters.
 //
-// A case is `Tokens PLACE MODE NUMBERS`, `Listing BYTES`, `Window ROOM ANSWERS` or `Events ROOM PLACES ANSWERS`, with so much lent. Behind `;` stands the
-// script, a space before each number; behind `|` the source. Without `|` it is of the most bytes, all of them spaces; with `+` of one more. `Most BYTES` lists
-// the source of the most tokens; of the bytes that are lent for a listing the last 30 are written.
+// A case is `Tokens PLACE MODE NUMBERS`, `Listing BYTES`, `Window ROOM ANSWERS` or `Events ROOM PLACES ANSWERS`, with so much lent.
+// Behind `;` stands the script, a space before each number; behind `|` the source. Without `|` it is of the most bytes, all of them
+// spaces; with `+` of one more. `Most BYTES` lists the source of the most tokens; of the bytes that are lent for a listing the last 30
+// are written.
 mod calls;
 mod cases;
 mod say;

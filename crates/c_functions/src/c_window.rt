@@ -4,8 +4,9 @@ ghost use Rattle.window_scripts.specs.Script.{replayed};
 ghost use Rattle.c_functions.specs.WindowLeft.{window-left};
 use crate::status;
 
-// A script of calls on a window that is opened on the source, two numbers each; their answers, four numbers each, are written from the front
-// of `answers` on. Answers 0; or 1 where the source is over the limit, then 15 where the answers have no room, and changes nothing that is lent.
+// A script of calls on a window that is opened on the source, two numbers each; their answers, four numbers each, are written from the
+// front of `answers` on. Answers 0; or 1 where the source is over the limit, then 15 where the answers have no room, and changes nothing
+// that is lent.
 #[no_mangle]
 pub extern "C" fn rattle_window(
     src: &[u8],

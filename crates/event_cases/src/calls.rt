@@ -1,5 +1,5 @@
-// What a line asks of the stream: a call, made by its numbers, or another thing to do with it. What is answered is said, and the stream after
-// it handed on.
+// What a line asks of the stream: a call, made by its numbers, or another thing to do with it. What is answered is said, and the stream
+// after it handed on.
 use crate::same;
 use crate::say;
 use event_scripts::Asked;

@@ -32,7 +32,8 @@ pub record Lent : Type 0 where
 abbrev pub lent : List ℕ → List ℕ → List ℕ → Lent
 lent room opens answers = record { room = room; opens = opens; answers = answers }
 
--- Refused by 15 where the answers have no room. Else they are the plain list's, from opening on; and the rooms hold what the calls leave there.
+-- Refused by 15 where the answers have no room. Else they are the plain list's, from opening on; and the rooms hold what the calls leave
+-- there.
 unfoldable pub replayed : List ℕ → List ℕ → List ℕ → List ℕ → Reply Lent
 unfolding call-of calls-from run after-all answered step noted
 replayed script room opens answers =

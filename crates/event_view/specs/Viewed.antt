@@ -1,5 +1,5 @@
--- From opening, over any calls, the stream answers as the plain list does: `commutes` call by call, since the open nodes of the list are the
--- Begins that no End closes, so that no later call is refused by 24. Assumes nothing.
+-- From opening, over any calls, the stream answers as the plain list does: `commutes` call by call, since the open nodes of the list are
+-- the Begins that no End closes, so that no later call is refused by 24. Assumes nothing.
 use Prim.Native.Nat.{ℕ, _+_, _-_, _≤_, _<_}
 use mathlib.Core.Path.{_≡_, refl, sym, ap, subst, _∙_}
 use mathlib.Core.Bool.{Bool, false}

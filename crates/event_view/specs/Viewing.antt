@@ -1,5 +1,5 @@
--- A stream's calls are the plain list's; `commutes` at a call is that call's law. A list laid into the rooms is seen there again: its events
--- have slots of their own, its open places stand first, and it has room, since the record keeps within its sizes. Assumes nothing.
+-- A stream's calls are the plain list's; `commutes` at a call is that call's law. A list laid into the rooms is seen there again: its
+-- events have slots of their own, its open places stand first, and it has room, since the record keeps within its sizes. Assumes nothing.
 use Prim.Native.Nat.{_≤_, _<_}
 use mathlib.Core.Path.{_≡_, refl}
 use native.Mathlib.Omega.{arith}

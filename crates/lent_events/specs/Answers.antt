@@ -1,5 +1,5 @@
--- What the walk of a thin call wants to know of an answer and of the struct that gives it beside the stream. An answer is an enum of plain data,
--- and the struct has these two fields, so all of it is had for any enum at once (`family`). Assumes nothing.
+-- What the walk of a thin call wants to know of an answer and of the struct that gives it beside the stream. An answer is an enum of
+-- plain data, and the struct has these two fields, so all of it is had for any enum at once (`family`). Assumes nothing.
 use mathlib.Core.Path.{_≡_, ap}
 use mathlib.Core.List.{[], _∷_}
 use lib.Dec.{T as Holds}
@@ -42,9 +42,9 @@ use Rattle.events.proofs.Stream.Laws as T′
 abbrev pub stream-val : Stream → Val
 stream-val h = only (LL.vals T.the-type T′.the-laws h)
 
--- The answer and the struct as types, the answer's type in MIR and the struct's name there; the machine value of an answer, and what it is in
--- document 01's values; the struct's two fields. Then what is known of them: the struct's machine value, the facts of its fields, that both are
--- typed as MIR types them, and that an answer owns only facts.
+-- The answer and the struct as types, the answer's type in MIR and the struct's name there; the machine value of an answer, and what it
+-- is in document 01's values; the struct's two fields. Then what is known of them: the struct's machine value, the facts of its fields,
+-- that both are typed as MIR types them, and that an answer owns only facts.
 pub record Answers : Type 2 where
   pub answer : RattleType
   pub given : RattleType

@@ -1,5 +1,5 @@
--- The record of a stream behind a reference: it is copied out, and another is stored. While the borrow is open the code owns the record's cell;
--- it is closed at the record that was stored, which is then the one that the lender reads. Assumes nothing.
+-- The record of a stream behind a reference: it is copied out, and another is stored. While the borrow is open the code owns the record's
+-- cell; it is closed at the record that was stored, which is then the one that the lender reads. Assumes nothing.
 use mathlib.Core.Path.{_≡_, refl}
 use Prim.Native.Nat.{ℕ}
 use mathlib.Core.List.{List, [], _∷_}

@@ -1,5 +1,6 @@
--- The parameters of a thin call beside the record, whatever they are: each is handed on to the callee as it is, or, where it is a `&mut` slice,
--- lent again in a local of its own. What a walk does with a list of locals is said once here, by recursion on the list. Assumes nothing.
+-- The parameters of a thin call beside the record, whatever they are: each is handed on to the callee as it is, or, where it is a `&mut`
+-- slice, lent again in a local of its own. What a walk does with a list of locals is said once here, by recursion on the list.
+-- Assumes nothing.
 use mathlib.Core.Path.{_≡_, refl}
 use Prim.Native.Nat.{ℕ, zero, suc, _<_, _^_}
 use mathlib.Core.List.{List, [], _∷_, _++_}
@@ -48,7 +49,8 @@ abbrev pub past : List Ty → ℕ → ℕ
 past [] i = i
 past (τ ∷ τs) i = suc (past τs i)
 
--- the code: the slices are lent again, the parameters being locals from i on and the fresh ones from t on; and what the callee is then passed
+-- the code: the slices are lent again, the parameters being locals from i on and the fresh ones from t on; and what the callee is then
+-- passed
 abbrev pub lends : ℕ → ℕ → List Kind → Body → Body
 lends i t [] rest = rest
 lends i t (passed τ ∷ ks) rest = lends (suc i) t ks rest

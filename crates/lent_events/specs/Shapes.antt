@@ -1,5 +1,5 @@
--- The five shapes of the nine calls: which rooms are lent, and what else is passed; and what a call of each shape promises, by the call's name
--- in document 01's values. A room that is read is after the call what it was before. Assumes nothing.
+-- The five shapes of the nine calls: which rooms are lent, and what else is passed; and what a call of each shape promises, by the call's
+-- name in document 01's values. A room that is read is after the call what it was before. Assumes nothing.
 use Prim.Native.Nat.{ℕ}
 use mathlib.Core.Path.{refl}
 use mathlib.Core.List.{List, [], _∷_}

@@ -78,8 +78,8 @@ module _ (F : Answers) (ks : List Kind) (none : Ty × ℕ) (l₀ l₁ : ℕ) (bs
   at-fresh : At environment none (fresh ks) (env (fresh-types ks) ts)
   at-fresh = past-params 2 (env (fresh-types ks) ts) (at-suc ((given-ty F, lg) ∷ fresh-env) none (T′.mir, lb) 1 (env (fresh-types ks) ts) (at-suc fresh-env none (given-ty F, lg) 0 (env (fresh-types ks) ts) (at-here (env (fresh-types ks) ts) [] none)))
 
--- The walk. `Has` is what the call has of its other parameters, which the callee takes whole. The callee gives back their tokens and its result x,
--- and says `said x`; what that comes to at exit is left to `exits`.
+-- The walk. `Has` is what the call has of its other parameters, which the callee takes whole. The callee gives back their tokens and its
+-- result x, and says `said x`; what that comes to at exit is left to `exits`.
 module _ {M : Type 1} (𝓤 : URA M) (H : Heap 𝓤) (A : Atoms 𝓤) (W : Given 𝓤 H A) (F : Answers) (n : Name) (ks : List Kind) (xs : Arguments ks) (r : Lent) (h : Stream) (Has tokens : SProp 𝓤) (said : F .given .Denot → SProp 𝓤) (Left : Val → SProp 𝓤) (C : Calls 𝓤 H) (Λ : Loops 𝓤 H) (fm : FmC 𝓤 H (W .laws) C) where
   pub walk : (Is T.the-row h (stream-val h ∷ []) → ent 𝓤 Has (C n (stream-val h ∷ passed-values ks xs) (λ w. H .⇛ (ex 𝓤 (λ (x : F .given .Denot). sep 𝓤 (sep 𝓤 tokens (sem 𝓤 H A (F .given .own x (w ∷ [])))) (said x))))))
       → ((x : F .given .Denot) → Is (F .answer) (F .answer-of x) (F .val (F .answer-of x) ∷ []) → ent 𝓤 (⋆ 𝓤 H A (closed r (F .stream-of x) (raw tokens ∷ raw (said x) ∷ []))) (Left (F .val (F .answer-of x))))

@@ -1,5 +1,5 @@
--- Examples that pin the definition: numbers behind a space, and places where there is none: at a digit, at a space with none behind it, past
--- the end. Each is computed by the definition itself. Assumes nothing.
+-- Examples that pin the definition: numbers behind a space, and places where there is none: at a digit, at a space with none behind it,
+-- past the end. Each is computed by the definition itself. Assumes nothing.
 use Prim.Native.Nat.{ℕ}
 use mathlib.Core.Path.{_≡_, refl}
 use mathlib.Core.List.{[], _∷_, map}

@@ -1,4 +1,5 @@
--- Examples that pin the definition: pairs one after the other, and what ends them. Each is computed by the definition itself. Assumes nothing.
+-- Examples that pin the definition: pairs one after the other, and what ends them. Each is computed by the definition itself.
+-- Assumes nothing.
 use mathlib.Core.Path.{_≡_, refl}
 use mathlib.Core.List.{[], _∷_}
 use Rattle.tokens.specs.Tokens.{ascii}

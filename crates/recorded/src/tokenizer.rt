@@ -1,5 +1,5 @@
-// Records of the Rust's tokenizer, held to the scanner through a token source. The numbers of one are that of the mode and, for each token, its
-// kind and its end. It stops at the first INVALID_UTF8 or UNKNOWN, of which it has the kind and the start.
+// Records of the Rust's tokenizer, held to the scanner through a token source. The numbers of one are that of the mode and, for each
+// token, its kind and its end. It stops at the first INVALID_UTF8 or UNKNOWN, of which it has the kind and the start.
 use reader::Opened;
 use reader::Reader;
 use reader::Scan;

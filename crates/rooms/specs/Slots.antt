@@ -1,5 +1,5 @@
--- What stands in slots of so many numbers each: what was stored in a slot is read there, and other slots are as they were. For the numbers of
--- a slot lie together, and two slots share none. Assumes nothing.
+-- What stands in slots of so many numbers each: what was stored in a slot is read there, and other slots are as they were. For the
+-- numbers of a slot lie together, and two slots share none. Assumes nothing.
 use Prim.Native.Nat.{ℕ, _+_, _*_, _≤_, _<_}
 use mathlib.Core.Path.{_≡_, _∙_}
 use mathlib.Core.List.{List}

@@ -1,5 +1,5 @@
--- The calls of a script run one after the other, each answer noted at its place: that leaves the state after all calls and all answers noted.
--- By induction on the calls: an answer has so many numbers, so the next one stands behind it. Assumes nothing.
+-- The calls of a script run one after the other, each answer noted at its place: that leaves the state after all calls and all answers
+-- noted. By induction on the calls: an answer has so many numbers, so the next one stands behind it. Assumes nothing.
 use Prim.Native.Nat.{ℕ, zero, suc, _+_, _-_, _*_, _<_, _≤_}
 use mathlib.Core.Path.{_≡_, refl, _∙_}
 use mathlib.Core.List.{List, flatMap}

@@ -1,5 +1,5 @@
--- Steps that every walk of code by hand can take beside the kit's: a local's place, and a local that is freed wherever its two entries stand.
--- Each is the kit's rule for one statement, at an environment or a context that is known only in part. Assumes nothing.
+-- Steps that every walk of code by hand can take beside the kit's: a local's place, and a local that is freed wherever its two entries
+-- stand. Each is the kit's rule for one statement, at an environment or a context that is known only in part. Assumes nothing.
 use mathlib.Core.Path.{_≡_, sym, subst}
 use Prim.Native.Nat.{ℕ, zero}
 use mathlib.Core.List.{List, [], _∷_}

@@ -1,5 +1,5 @@
--- `window_scripts::replay` meets its contract: where opening is refused, or the answers have no room, nothing is written; else all calls run on
--- the window that was opened. Assumes nothing.
+-- `window_scripts::replay` meets its contract: where opening is refused, or the answers have no room, nothing is written; else all calls
+-- run on the window that was opened. Assumes nothing.
 use borrow.Author.Needs.{needs}
 use Rattle.window_scripts.specs.ReplayLaws.{replayed-refused, replayed-not, replayed-done}
 use Rattle.window_scripts.proofs.replay.Statement.{statement}

@@ -1,5 +1,5 @@
--- `window_scripts::run` meets its contract. The loop's invariant: the calls that are left, run from here on, leave what all calls leave from the
--- start. The measure is the number of calls that are left. Assumes nothing.
+-- `window_scripts::run` meets its contract. The loop's invariant: the calls that are left, run from here on, leave what all calls leave
+-- from the start. The measure is the number of calls that are left. Assumes nothing.
 use Prim.Native.Nat.{_≤_, _-_}
 use mathlib.Core.Path.{_≡_, refl, sym, ap, _∙_}
 use native.Mathlib.Nat.{add-zero, sub-zero}

@@ -1,5 +1,5 @@
--- `c_functions::in_mode` meets its contract: the test of the place is the definition's, and fetching all tokens is refused only for want of slots.
--- Assumes nothing.
+-- `c_functions::in_mode` meets its contract: the test of the place is the definition's, and fetching all tokens is refused only for want
+-- of slots. Assumes nothing.
 use native.Mathlib.Omega.{arith}
 use borrow.Author.Needs.{needs}
 use Rattle.fetching.specs.declared.Fetched.the-variants.{Upto, Refused}

@@ -1,5 +1,5 @@
--- `c_functions::rattle_tokens` meets its contract: a source over the limit is refused first; each arm has the mode of its number, and any other
--- number is refused. Assumes nothing.
+-- `c_functions::rattle_tokens` meets its contract: a source over the limit is refused first; each arm has the mode of its number, and any
+-- other number is refused. Assumes nothing.
 use native.Mathlib.Omega.{arith}
 use borrow.Author.Needs.{needs}
 use Rattle.c_functions.specs.TokensAtLaws.{at-too-long, at-mode, at-none}
