@@ -35,7 +35,7 @@ use Rattle.source.specs.Sources.{reader-of, source-at, switched}
 use Rattle.source.proofs.Source.Laws as S′
 use Rattle.source.proofs.Held.{SourceType, source-struct, source-laws, reader-val, source-val, OwnReader, Had, IsSource, its-bytes, its-reader, is-source, together, reader-had}
 use Rattle.source.proofs.Steps.{apart, takes-apart, takes}
-use Rattle.source.proofs.enter_hex_pattern_mode as thin
+use Rattle.source.proofs.Source.enter_hex_pattern_mode as thin
 
 -- the callee's promise, over the mode, and its contract
 abbrev core-says : {M : Type 1} (𝓤 : URA M) → Mode → Clauses 𝓤 core.ended

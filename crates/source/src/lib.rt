@@ -1,5 +1,5 @@
 // A token source: it keeps the rule bytes that it was opened on, a place in them and a mode. Thin calls: each takes the struct apart and
-// hands its reader on. They are proved by walks of their code. The next token is asked for in crate source_reading.
+// hands its reader on. They are proved by walks of their code. The next token stands in `reading`.
 ghost use mathlib.Core.Path.{_≡_};
 ghost use Rattle.tokens.specs.declared.Mode.the-variants.{HexPattern, HexJump};
 ghost use Rattle.refusals.specs.Calls.{reply};
@@ -11,7 +11,6 @@ mod reading;
 use reader::Opened;
 use reader::Reader;
 pub use reading::ScanGiven;
-pub use reading::next;
 pub use reading::next_at;
 use refusals::DoneAnswer;
 use tokens::Mode;
@@ -36,52 +35,54 @@ struct Begun {
     reader: Reader,
 }
 
-// A source at the start of its bytes, in normal mode.
-pub fn open<'a>(src: &'a [u8]) -> OpenGiven<'a>
-    ensures { λ r. ⌜ open-reply r ≡ opened-on (src .entry) ⌝ }
-{
-    let begun = begin(src);
-    OpenGiven {
-        answer: begun.answer,
-        source: Source {
+impl<'a> Source<'a> {
+    // A source at the start of its bytes, in normal mode.
+    pub fn open(src: &'a [u8]) -> OpenGiven<'a>
+        ensures { λ r. ⌜ open-reply r ≡ opened-on (src .entry) ⌝ }
+    {
+        let begun = begin(src);
+        OpenGiven {
+            answer: begun.answer,
+            source: Source {
+                src,
+                place: begun.reader.place,
+                mode: begun.reader.mode,
+            },
+        }
+    }
+
+    // Switches to the pattern mode, where the source is.
+    pub fn enter_hex_pattern_mode(self) -> Source<'a>
+        ensures { λ r. ⌜ r ≡ switched HexPattern (self .entry) ⌝ }
+    {
+        let src = self.src;
+        let reader = Reader {
+            place: self.place,
+            mode: self.mode,
+        };
+        let moved = reader.enter_hex_pattern_mode();
+        Source {
             src,
-            place: begun.reader.place,
-            mode: begun.reader.mode,
-        },
+            place: moved.place,
+            mode: moved.mode,
+        }
     }
-}
 
-// Switches to the pattern mode, where the source is.
-pub fn enter_hex_pattern_mode<'a>(source: Source<'a>) -> Source<'a>
-    ensures { λ r. ⌜ r ≡ switched HexPattern (source .entry) ⌝ }
-{
-    let src = source.src;
-    let reader = Reader {
-        place: source.place,
-        mode: source.mode,
-    };
-    let moved = reader.enter_hex_pattern_mode();
-    Source {
-        src,
-        place: moved.place,
-        mode: moved.mode,
-    }
-}
-
-// Switches to the jump mode, where the source is.
-pub fn enter_hex_jump_mode<'a>(source: Source<'a>) -> Source<'a>
-    ensures { λ r. ⌜ r ≡ switched HexJump (source .entry) ⌝ }
-{
-    let src = source.src;
-    let reader = Reader {
-        place: source.place,
-        mode: source.mode,
-    };
-    let moved = reader.enter_hex_jump_mode();
-    Source {
-        src,
-        place: moved.place,
-        mode: moved.mode,
+    // Switches to the jump mode, where the source is.
+    pub fn enter_hex_jump_mode(self) -> Source<'a>
+        ensures { λ r. ⌜ r ≡ switched HexJump (self .entry) ⌝ }
+    {
+        let src = self.src;
+        let reader = Reader {
+            place: self.place,
+            mode: self.mode,
+        };
+        let moved = reader.enter_hex_jump_mode();
+        Source {
+            src,
+            place: moved.place,
+            mode: moved.mode,
+        }
     }
 }
 

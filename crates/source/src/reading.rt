@@ -21,23 +21,25 @@ struct Stepped {
     reader: Reader,
 }
 
-// The token at the source's place, and the source that goes on.
-pub fn next<'a>(source: Source<'a>) -> ScanGiven<'a>
-    ensures { λ r. ⌜ next-reply r ≡ next-of (source .entry) ⌝ }
-{
-    let src = source.src;
-    let reader = Reader {
-        place: source.place,
-        mode: source.mode,
-    };
-    let stepped = step(src, reader);
-    ScanGiven {
-        answer: stepped.answer,
-        source: Source {
-            src,
-            place: stepped.reader.place,
-            mode: stepped.reader.mode,
-        },
+impl<'a> Source<'a> {
+    // The token at the source's place, and the source that goes on.
+    pub fn next(self) -> ScanGiven<'a>
+        ensures { λ r. ⌜ next-reply r ≡ next-of (self .entry) ⌝ }
+    {
+        let src = self.src;
+        let reader = Reader {
+            place: self.place,
+            mode: self.mode,
+        };
+        let stepped = step(src, reader);
+        ScanGiven {
+            answer: stepped.answer,
+            source: Source {
+                src,
+                place: stepped.reader.place,
+                mode: stepped.reader.mode,
+            },
+        }
     }
 }
 
@@ -45,7 +47,7 @@ pub fn next<'a>(source: Source<'a>) -> ScanGiven<'a>
 pub fn next_at(src: &[u8], place: Offset, mode: Mode) -> Scan
     ensures { λ r. ⌜ scan-told r ≡ scan-of (now (src .entry)) (record { place = place; mode = mode }) ⌝ }
 {
-    let given = next(Source { src, place, mode });
+    let given = Source { src, place, mode }.next();
     given.answer
 }
 

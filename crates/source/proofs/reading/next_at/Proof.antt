@@ -51,9 +51,9 @@ use Rattle.source.proofs.Source.Laws as S′
 use Rattle.source.proofs.reading.ScanGiven as G
 use Rattle.source.proofs.reading.ScanGiven.Laws as G′
 use Rattle.source.proofs.Held.{local-a, Bytes, slice-val, offset-val, mode-val, source-val, OwnSource, IsBytes, IsReader, is-source, together}
-use Rattle.source.proofs.reading.next as next
-use Rattle.source.proofs.reading.next.Symbol as next-def
-use Rattle.source.proofs.reading.next.Met as next-thm
+use Rattle.source.proofs.Source.next as next
+use Rattle.source.proofs.Source.next.Symbol as next-def
+use Rattle.source.proofs.Source.next.Met as next-thm
 use Rattle.source.proofs.reading.next_at.Key as key
 use Rattle.source.proofs.reading.next_at as thin
 use Rattle.source.proofs.reading.next_at.Statement as stated
@@ -123,4 +123,4 @@ next-at-spec 𝓤 H 𝓜 𝓖 𝓡 =
     (spelled 𝓤 H (𝓖 .A) thin.signature (thin.spec 𝓤 H (𝓖 .A) (𝓜 .mem) (𝓡 .run)) (WpFn 𝓤 H (𝓣 .C) (𝓣 .Λ) code.function)
     (λ κs. (slice-vals, (LL.vals Offset.the-type Offset′.the-laws, (EL.vals Mode.the-type Mode′.the-laws, tt)))) (λ κs. (shr-slice-tells (named 0) (κs .0) u8, (LL.tells Offset.the-type Offset′.the-laws, (EL.tells Mode.the-type Mode′.the-laws, tt))))
     (λ κs qs bounds a g are. walk 𝓤 H (𝓖 .A) (𝓜 .mem) (𝓡 .run) W 𝓣 (κs .0) (qs .0) (a .0) (a .1 .0) (a .1 .1 .0) (are .1 .0) (are .1 .1 .0)
-    (cited 𝓤 H (Next 𝓤 H (𝓖 .A) (𝓜 .mem) (𝓡 .run)) 𝓜 𝓡 code.env next-def.name next-def.routine code.calls-source·reading·next (next-thm.met 𝓤 H 𝓜 𝓖 𝓡)) (are .0)))
+    (cited 𝓤 H (Next 𝓤 H (𝓖 .A) (𝓜 .mem) (𝓡 .run)) 𝓜 𝓡 code.env next-def.name next-def.routine code.calls-source·Source·next (next-thm.met 𝓤 H 𝓜 𝓖 𝓡)) (are .0)))

@@ -9,10 +9,10 @@ use Rattle.reader.proofs.Reader.enter_hex_jump_mode as core
 use Rattle.reader.proofs.Reader.enter_hex_jump_mode.Symbol as core-def
 use Rattle.reader.proofs.Reader.enter_hex_jump_mode.Met as core-thm
 use Rattle.source.proofs.Switch.{switches}
-use Rattle.source.proofs.enter_hex_jump_mode.Key as key
-use Rattle.source.proofs.enter_hex_jump_mode as thin
-use Rattle.source.proofs.enter_hex_jump_mode.Statement as stated
-use Rattle.source.proofs.enter_hex_jump_mode.Code as code
+use Rattle.source.proofs.Source.enter_hex_jump_mode.Key as key
+use Rattle.source.proofs.Source.enter_hex_jump_mode as thin
+use Rattle.source.proofs.Source.enter_hex_jump_mode.Statement as stated
+use Rattle.source.proofs.Source.enter_hex_jump_mode.Code as code
 
 pub enter-hex-jump-mode-spec : {M : Type 1} → stated.statement M
 unfolding code.routine tablesOf

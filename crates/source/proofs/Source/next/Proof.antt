@@ -39,10 +39,10 @@ use Rattle.source.proofs.Pair.{pairs, paired-told}
 use Rattle.source.proofs.reading.step as step
 use Rattle.source.proofs.reading.step.Symbol as step-def
 use Rattle.source.proofs.reading.step.Met as step-thm
-use Rattle.source.proofs.reading.next.Key as key
-use Rattle.source.proofs.reading.next as thin
-use Rattle.source.proofs.reading.next.Statement as stated
-use Rattle.source.proofs.reading.next.Code as code
+use Rattle.source.proofs.Source.next.Key as key
+use Rattle.source.proofs.Source.next as thin
+use Rattle.source.proofs.Source.next.Statement as stated
+use Rattle.source.proofs.Source.next.Code as code
 
 module _ {M : Type 1} (𝓤 : URA M) (H : Heap 𝓤) (A : Atoms 𝓤) (mem : Memory → SProp 𝓤) (run : Routine → Fun 𝓤) where
   abbrev Step : Contract 𝓤

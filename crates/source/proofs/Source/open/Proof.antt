@@ -40,10 +40,10 @@ use Rattle.source.proofs.Pair.{pairs, paired-told}
 use Rattle.source.proofs.begin as begin
 use Rattle.source.proofs.begin.Symbol as begin-def
 use Rattle.source.proofs.begin.Met as begin-thm
-use Rattle.source.proofs.open.Key as key
-use Rattle.source.proofs.open as thin
-use Rattle.source.proofs.open.Statement as stated
-use Rattle.source.proofs.open.Code as code
+use Rattle.source.proofs.Source.open.Key as key
+use Rattle.source.proofs.Source.open as thin
+use Rattle.source.proofs.Source.open.Statement as stated
+use Rattle.source.proofs.Source.open.Code as code
 
 module _ {M : Type 1} (𝓤 : URA M) (H : Heap 𝓤) (A : Atoms 𝓤) (mem : Memory → SProp 𝓤) (run : Routine → Fun 𝓤) where
   abbrev Begin : Contract 𝓤
