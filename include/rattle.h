@@ -1,4 +1,4 @@
-/* The C functions of the Rattle YARA scanner (crates c_tokens, c_listing, c_window and c_events), in the static library that `./library` builds.
+/* The C functions of the Rattle YARA scanner (crate c_functions), in the static library that `./library` builds.
  *
  * Each answers 0, or the number of the refusal (document 01's, docs/01-scope.md; 15 is room that is too small). A refused call changes
  * nothing that is lent. They keep no state and allocate nothing: what they write, they write into what the caller lends, which no two
@@ -17,7 +17,8 @@ extern "C" {
 enum { RATTLE_NORMAL = 0, RATTLE_PATTERN = 1, RATTLE_JUMP = 2 };
 
 /* The tokens of a source from a place on, in a mode: kind, start and end of each go to `out`, and how many they are to `count`.
- * 1: the source has more than 65,535 bytes; 24: the place is past it, or the mode is none; 15: `out` has fewer than three numbers a token. */
+ * 1: the source has more than 65,535 bytes; 24: the place is past it, or the mode is none; 15: `out` has fewer than three numbers a
+ * token. */
 uint32_t rattle_tokens(const uint8_t *src, size_t src_len, uint32_t place, uint32_t mode, uint32_t *out, size_t out_len, uint32_t *count);
 
 /* Document 01's listing of a source as text, at the front of `out`; how many bytes it has goes to `len`.

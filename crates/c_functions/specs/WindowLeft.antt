@@ -1,5 +1,5 @@
--- What rattle_window leaves, in replay's words: its number tells done or the refusal. The contract leaves no choice, since the number and
--- all that is lent can be read back. Assumes nothing.
+-- What rattle_window leaves, in the words of window_scripts: its number tells done or the refusal. The contract leaves no choice, since
+-- the number and all that is lent can be read back. Assumes nothing.
 use Prim.Native.Nat.{ℕ}
 use mathlib.Core.Path.{refl, ap}
 use mathlib.Core.List.{List}

@@ -39,7 +39,8 @@ unfoldable pub read : List ℕ → Slot → Event
 unfolding read-at
 read room s = cond (ltb (s .0) (slots-in (length room))) (read-at room s) (event-of 0 0 (span 0 0))
 
--- The slot of the event at position i in a ring of e slots: `e - f` slots lie from the front f on; behind them the ring goes on in the first.
+-- The slot of the event at position i in a ring of e slots: `e - f` slots lie from the front f on; behind them the ring goes on in the
+-- first.
 abbrev pub slot-of : ℕ → Slot → ℕ → Slot
 slot-of e f i = record { 0 = cond (ltb i (e - f .0)) (f .0 + i) (i - (e - f .0)) }
 

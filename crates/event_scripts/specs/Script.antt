@@ -12,7 +12,7 @@ use Rattle.events.specs.Stream.{step}
 use Rattle.event_scripts.specs.Asking.{call-of, numbers, five}
 use Rattle.event_view.specs.Viewed.{start}
 
--- A call is four numbers, an answer five (event_asking).
+-- A call is four numbers, an answer five (Asking).
 abbrev pub form : Form Call Answer
 form =
     record {

@@ -1,5 +1,5 @@
--- Laws of the loop over a ring that asks for balance, turn by turn: the first event of those that are left decides, or they are as balanced as
--- the rest. By the list that stands in the ring. Assumes nothing.
+-- Laws of the loop over a ring that asks for balance, turn by turn: the first event of those that are left decides, or they are as
+-- balanced as the rest. By the list that stands in the ring. Assumes nothing.
 use Prim.Native.Nat.{ℕ, suc, _+_, _-_, _≤_, _<_}
 use mathlib.Core.Path.{_≡_, ap, sym, _∙_}
 use mathlib.Core.Bool.{Bool, false, not, _&&_}

@@ -1,5 +1,5 @@
--- What the calls that close answer, branch by branch of the code: the first ground that holds refuses, and where none holds the stores are those
--- of the list that the call leaves. For the list's figures are the record's. Assumes nothing.
+-- What the calls that close answer, branch by branch of the code: the first ground that holds refuses, and where none holds the stores
+-- are those of the list that the call leaves. For the list's figures are the record's. Assumes nothing.
 use Prim.Native.Nat.{_+_, _<_}
 use mathlib.Core.Path.{_≡_, sym, ap, _∙_}
 use mathlib.Core.Bool.{true, false}

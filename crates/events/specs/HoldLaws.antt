@@ -1,5 +1,5 @@
--- How the stores of the code lay the list that a call leaves: an event more is one write, and what is not written is what the list held there
--- already. By the laws of the ring. What each call's stores come to is said in the crates above. Assumes nothing.
+-- How the stores of the code lay the list that a call leaves: an event more is one write, and what is not written is what the list held
+-- there already. By the laws of the ring. What each call's stores come to is said beside its laws. Assumes nothing.
 use Prim.Native.Nat.{ℕ, _+_, _≤_, _<_}
 use mathlib.Core.Path.{_≡_, sym}
 use mathlib.Core.List.{List, [], _∷_, _++_}

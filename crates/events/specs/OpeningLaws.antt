@@ -1,5 +1,5 @@
--- What opening a node answers, branch by branch of the code: the first ground that holds refuses, and where none holds one write and a place
--- lay the list that the call leaves. For the list's figures are the record's. Assumes nothing.
+-- What opening a node answers, branch by branch of the code: the first ground that holds refuses, and where none holds one write and a
+-- place lay the list that the call leaves. For the list's figures are the record's. Assumes nothing.
 use Prim.Native.Nat.{ℕ, _+_, _-_, _≤_, _<_}
 use mathlib.Core.Path.{_≡_, refl}
 use mathlib.Core.List.{List, [], _∷_, _++_}

@@ -1,5 +1,5 @@
--- Laws of the loop over a ring that seeks a token, turn by turn: the last of some events is the last token, or it is sought among the others. By
--- the list that stands in the ring. Assumes nothing.
+-- Laws of the loop over a ring that seeks a token, turn by turn: the last of some events is the last token, or it is sought among the
+-- others. By the list that stands in the ring. Assumes nothing.
 use Prim.Native.Nat.{ℕ, _+_, _≤_}
 use mathlib.Core.Path.{_≡_, ap, sym, _∙_}
 use mathlib.Core.Bool.{cond}

@@ -1,5 +1,5 @@
--- What a truncation answers, branch by branch of the code: the first ground that holds refuses; where none holds nothing is to be stored, as the
--- list that the call leaves has the first of the events that stand. Assumes nothing.
+-- What a truncation answers, branch by branch of the code: the first ground that holds refuses; where none holds nothing is to be stored,
+-- as the list that the call leaves has the first of the events that stand. Assumes nothing.
 use Prim.Native.Nat.{ℕ, _≤_, _<_}
 use mathlib.Core.Path.{_≡_, refl, sym, _∙_}
 use mathlib.Core.Bool.{Bool, true, false}

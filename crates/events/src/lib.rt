@@ -1,5 +1,5 @@
-// The event stream: the nodes, tokens and errors that a parser finds, in order, in a ring of slots that is lent. Its record, the answers, and
-// the steps that more than one call is made of; each group of calls has a module.
+// The event stream: the nodes, tokens and errors that a parser finds, in order, in a ring of slots that is lent. Its record, the answers,
+// and the steps that more than one call is made of; each group of calls has a module.
 ghost use Prim.Native.Nat.{_+_, _-_};
 ghost use mathlib.Core.Path.{_≡_};
 ghost use lib.ListN.{length};

@@ -27,7 +27,8 @@ impl Stream {
         }
     }
 
-    // The first event, where nothing is open and no bookmark lives. The open places, which it does not read, are any with which the stream is one.
+    // The first event, where nothing is open and no bookmark lives. The open places, which it does not read, are any with which the
+    // stream is one.
     fn pop_first(self, room: &[u32]) -> EventGiven
         ensures { λ r. ⌜ ((opens : List ℕ) → Fit (state self (now (room .entry)) opens) → event-reply r (now (room .entry)) opens ≡ answered pop-call (state self (now (room .entry)) opens)) ⌝ }
     {

@@ -55,7 +55,8 @@ impl Stream {
         }
     }
 
-    // Pushes an event, behind which the last token is `last`. The open places, which it neither reads nor changes, are any with which the stream is one.
+    // Pushes an event, behind which the last token is `last`. The open places, which it neither reads nor changes, are any with which the
+    // stream is one.
     fn push(self, room: &mut [u32], event: Event, last: Span) -> DoneGiven
         ensures { λ r. ⌜ ((opens : List ℕ) → Fit (state self (now (room .entry)) opens) → done-reply r (now (room .exit)) opens ≡ pushes event last (state self (now (room .entry)) opens)) ⌝ }
     {

@@ -24,8 +24,8 @@ impl Stream {
         }
     }
 
-    // Takes back the events from a position on, where a bookmark lives and the position is not past the end. Here and below the open places, which
-    // are not read, are any with which the stream is one.
+    // Takes back the events from a position on, where a bookmark lives and the position is not past the end. Here and below the open
+    // places, which are not read, are any with which the stream is one.
     fn cut(self, room: &[u32], from: Position) -> DoneGiven
         ensures { λ r. ⌜ ((opens : List ℕ) → Fit (state self (now (room .entry)) opens) → done-reply r (now (room .entry)) opens ≡ answered (truncate-call from) (state self (now (room .entry)) opens)) ⌝ }
     {

@@ -1,4 +1,4 @@
-// The listing of a source, as document 01 shows it, written into a lent buffer. What its text is stands in listing_form.
+// The listing of a source, as document 01 shows it, written into a lent buffer. What its text is stands in specs/Listing.
 ghost use Prim.Native.Nat.{_+_, _≤_, _<_};
 ghost use mathlib.Core.Path.{_≡_};
 ghost use lib.ListN.{length};

@@ -1,5 +1,5 @@
-// The reader: where scanning goes on in a source, and in which mode. Opening gives one, a switch moves it to another mode, and a scan (crate
-// scanner) behind a token.
+// The reader: where scanning goes on in a source, and in which mode. Opening gives one, a switch moves it to another mode, and a scan
+// (`scanning`) behind a token.
 ghost use mathlib.Core.Path.{_≡_};
 ghost use Rattle.tokens.specs.declared.Mode.the-variants.{HexPattern, HexJump};
 ghost use Rattle.reader.specs.Reading.{open-of, opened-told, entered};

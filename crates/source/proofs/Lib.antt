@@ -1,4 +1,4 @@
--- What the proofs of this crate and of source_reading share.
+-- What the proofs of this crate share.
 pub mod Held
 pub mod Pair
 pub mod Steps

@@ -1,5 +1,6 @@
--- An answer beside a source, made of what a covered call gave: the same answer beside a reader. Both structs are seen as pairs, so opening and the
--- next token are two instances. An answer and a reader own only facts, so what the bytes own is all that is given. Assumes nothing.
+-- An answer beside a source, made of what a covered call gave: the same answer beside a reader. Both structs are seen as pairs, so
+-- opening and the next token are two instances. An answer and a reader own only facts, so what the bytes own is all that is given.
+-- Assumes nothing.
 use mathlib.Core.Path.{_≡_, refl}
 use Prim.Native.Nat.{ℕ}
 use mathlib.Core.List.{List, [], _∷_}

@@ -1,5 +1,5 @@
--- What functions that take a source alone share: the statements that put its slice and its reader into locals, and what their walks start from.
--- What a source owns is what its bytes own, and a contract wants nothing of a parameter back. Assumes nothing.
+-- What functions that take a source alone share: the statements that put its slice and its reader into locals, and what their walks start
+-- from. What a source owns is what its bytes own, and a contract wants nothing of a parameter back. Assumes nothing.
 use mathlib.Core.Path.{refl}
 use Prim.Native.Nat.{ℕ}
 use mathlib.Core.List.{List, [], _∷_}

@@ -1,5 +1,5 @@
-// The next token of a token source. `next` takes the source apart and hands slice, place and mode to the scanner; it is proved by a walk of its
-// code. `next_at` serves callers that want none.
+// The next token of a token source. `next` takes the source apart and hands slice, place and mode to the scanner; it is proved by a walk
+// of its code. `next_at` serves callers that want none.
 ghost use mathlib.Core.Path.{_≡_};
 ghost use Rattle.reader.specs.Reading.{scan-of, scan-told};
 ghost use Rattle.source.specs.Next.{stepped-by, next-of, next-reply, step-reply};

@@ -1,5 +1,5 @@
--- What fetching answers is what is reached, for its test is that of the tokens kept; and no number of tokens beyond the source's bytes is more
--- than all of them. Assumes nothing.
+-- What fetching answers is what is reached, for its test is that of the tokens kept; and no number of tokens beyond the source's bytes is
+-- more than all of them. Assumes nothing.
 use Prim.Native.Nat.{ℕ, suc, min, _+_, _-_, _≤_, _<_}
 use mathlib.Core.Path.{_≡_, ap, _∙_}
 use mathlib.Core.Bool.{true, false, _&&_}

@@ -1,6 +1,5 @@
--- The tests of refusal 24 as the code groups them; one that fails is enough for the refusal. Where the bookmarks are held in order, the first
--- tells how many tokens are kept.
--- Assumes nothing.
+-- The tests of refusal 24 as the code groups them; one that fails is enough for the refusal. Where the bookmarks are held in order, the
+-- first tells how many tokens are kept. Assumes nothing.
 use Prim.Native.Nat.{ℕ, _-_, _≤_}
 use mathlib.Core.Path.{_≡_, refl, sym, ap, _∙_}
 use mathlib.Core.Bool.{Bool, true, false, _&&_, and-true}

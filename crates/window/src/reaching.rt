@@ -16,7 +16,8 @@ use refusals::DoneAnswer;
 use refusals::Refusal;
 use tokens::TokenIndex;
 
-// What a call comes to that wants tokens: whether it is refused, and where the window reads on: its reader, and the number of tokens fetched.
+// What a call comes to that wants tokens: whether it is refused, and where the window reads on: its reader, and the number of tokens
+// fetched.
 pub(crate) struct Reached {
     pub(crate) answer: DoneAnswer,
     pub(crate) reader: Reader,

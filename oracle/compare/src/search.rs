@@ -19,8 +19,8 @@ pub trait Search: Sync {
     /// What can be called behind these calls.
     fn choices(&self, calls: &[Self::Call]) -> Vec<Self::Call>;
 
-    /// Compares a sequence, whose calls but the last one are answered alike by both: whether the last one is too. Where it is not, the tally
-    /// keeps the sequence under what explains it, or the error says what nothing explains.
+    /// Compares a sequence, whose calls but the last one are answered alike by both: whether the last one is too. Where it is not, the
+    /// tally keeps the sequence under what explains it, or the error says what nothing explains.
     fn judge(&self, calls: &[Self::Call], random: &mut Random, tally: &mut Tally) -> Result<bool, String>;
 
     /// A sequence in words.

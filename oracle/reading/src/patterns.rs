@@ -105,8 +105,8 @@ fn pattern(text: &str, literal: bool) -> Pattern {
     Pattern { kind, literal, automaton }
 }
 
-/// What a Rust string literal, raw or not, has between its quotes, and the text behind it. Escapes are left: those that occur in the regular
-/// expressions mean the same there.
+/// What a Rust string literal, raw or not, has between its quotes, and the text behind it. Escapes are left: those that occur in the
+/// regular expressions mean the same there.
 fn quoted(text: &str) -> (&str, &str) {
     if let Some(raw) = text.strip_prefix("r#\"") {
         return raw.split_once("\"#").expect("the end of a raw string");

@@ -4,7 +4,8 @@ use crate::standing::Standing;
 /// Room that no sequence needs: so many numbers of event slots, and open places.
 const AMPLE: (usize, usize) = (4096, 256);
 
-/// A run of a sequence: what is remarked of it, how many numbers and places are lent, the slot to which the front is moved first, the calls.
+/// A run of a sequence: what is remarked of it, how many numbers and places are lent, the slot to which the front is moved first, the
+/// calls.
 struct Run<'a> {
     remark: String,
     numbers: usize,

@@ -1,9 +1,8 @@
 //! Scripts: one call a line, one answer a line. Empty lines and those that start with `--` are copied.
 //!
-//! Window: `open HEX` or `text REST-OF-LINE`; `next`, `peek N`, `has_more`, `index`, `bookmark`, `restore I`, `remove I`, `pattern`, `jump`.
-//! A token is answered as kind, start and end.
-//! Events: `open`; `token K S E`, `error M S E`, `begin K`, `end`, `end_error`, `bookmark`, `truncate P`, `remove P`, `pop`, and
-//! `drain`, which pops all. An event is answered as tag, kind or message, start and end.
+//! Window: `open HEX` or `text REST-OF-LINE`; `next`, `peek N`, `has_more`, `index`, `bookmark`, `restore I`, `remove I`, `pattern`,
+//! `jump`. A token is answered as kind, start and end. Events: `open`; `token K S E`, `error M S E`, `begin K`, `end`, `end_error`,
+//! `bookmark`, `truncate P`, `remove P`, `pop`, and `drain`, which pops all. An event is answered as tag, kind or message, start and end.
 use std::any::Any;
 use std::panic::{AssertUnwindSafe, catch_unwind, set_hook};
 

@@ -1,5 +1,5 @@
--- Opening meets its promise: the reader's own opening promises which of the two answers it gives, and a reader that is ready is at the start.
--- Assumes nothing.
+-- Opening meets its promise: the reader's own opening promises which of the two answers it gives, and a reader that is ready is at the
+-- start. Assumes nothing.
 use Prim.Native.Nat.{ℕ}
 use mathlib.Core.Path.{_≡_, ap, sym, _∙_}
 use mathlib.Core.List.{List}

@@ -13,8 +13,8 @@ pub fn rooms(random: &mut Random) -> (Vec<u32>, Vec<usize>) {
     (room, random.numbers(places).into_iter().map(|number| number as usize).collect())
 }
 
-/// How often each call is drawn, in the order of their numbers: where mostly events are pushed, where much is tried and taken back, and where
-/// mostly nodes end and events are popped. A sequence goes round.
+/// How often each call is drawn, in the order of their numbers: where mostly events are pushed, where much is tried and taken back, and
+/// where mostly nodes end and events are popped. A sequence goes round.
 const WEIGHTS: [[usize; 9]; 4] =
     [[8, 2, 4, 2, 1, 1, 1, 1, 1], [6, 2, 3, 3, 1, 5, 6, 2, 1], [1, 1, 1, 12, 4, 0, 2, 12, 20], [1, 1, 1, 4, 1, 1, 1, 12, 40]];
 

@@ -114,8 +114,8 @@ fn through_rust(sequence: &Sequence, answers: &[usize], tried: Option<u32>, tall
     Ok(())
 }
 
-/// What the Rust does with a call that is refused here by a number, which is to be counted: it must panic where 6, 9 or 10 stand, and take what
-/// the others refuse.
+/// What the Rust does with a call that is refused here by a number, which is to be counted: it must panic where 6, 9 or 10 stand, and
+/// take what the others refuse.
 fn refused_there(number: u32, answer: Option<Answer>) -> Result<String, String> {
     let name = format!("refused {number:2} here, {} there", if answer.is_some() { "taken" } else { "a panic" });
     let panics = [6, 9, 10].contains(&number);

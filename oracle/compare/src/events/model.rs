@@ -1,5 +1,5 @@
-//! Document 01's event stream, written from its text alone: a list of events, the refusals of E slots and D open places, and what stands in them.
-//! A script runs from opening on, over the same rooms, so refusal 24 (forged state) cannot arise in it.
+//! Document 01's event stream, written from its text alone: a list of events, the refusals of E slots and D open places, and what stands
+//! in them. A script runs from opening on, over the same rooms, so refusal 24 (forged state) cannot arise in it.
 use std::collections::VecDeque;
 
 /// Tag, kind or message, start and end.

@@ -7,7 +7,8 @@ use std::fmt::{Display, Formatter};
 const NAMES: [&str; 9] = ["token", "error", "begin", "end", "end_with_error", "bookmark", "truncate", "remove", "pop"];
 
 impl Call {
-    /// The four numbers of a script. `idle` stands where no argument is wanted and above the 16 bits of a kind; a number above all calls pops.
+    /// The four numbers of a script. `idle` stands where no argument is wanted and above the 16 bits of a kind; a number above all calls
+    /// pops.
     pub fn numbers(self, idle: u32) -> [u32; 4] {
         let wide = |kind: u32| kind | idle << 16;
         match self {

@@ -38,7 +38,8 @@ pub fn room(random: &mut Random) -> Vec<u32> {
 struct Manner {
     /// How often each call is drawn, in the order of their numbers.
     weights: [usize; 9],
-    /// Whether a next is left out that would go over the edge of the domain. If not, the edge is sought: the least bookmark is restored and removed.
+    /// Whether a next is left out that would go over the edge of the domain. If not, the edge is sought: the least bookmark is restored
+    /// and removed.
     careful: bool,
     /// Whether bookmarks are named that may not live, and peeks go further than 65,535.
     wild: bool,

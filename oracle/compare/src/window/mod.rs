@@ -1,5 +1,5 @@
-//! Sequences of calls on a window: the port against document 01's model, in every answer and every lent number, and against the Rust call by
-//! call inside document 01's domain of equality.
+//! Sequences of calls on a window: the port against document 01's model, in every answer and every lent number, and against the Rust call
+//! by call inside document 01's domain of equality.
 mod draw;
 mod fault;
 mod model;
@@ -80,7 +80,8 @@ fn refused_whole(sequence: &Sequence, script: &[u32], lent: Vec<u32>, number: u3
     same(&room, &sequence.lent, "in the room of a refused script")
 }
 
-/// Puts the calls to the Rust as far as the domain reaches, where it must answer as the port; and looks at the call behind the domain's edge.
+/// Puts the calls to the Rust as far as the domain reaches, where it must answer as the port; and looks at the call behind the domain's
+/// edge.
 fn through_rust(sequence: &Sequence, answers: &[u32], tally: &mut Tally) -> Result<(), String> {
     let mut rust = rust::window::Window::open(sequence.src);
     let (mut inside, mut edge, mut leaves) = (Vec::new(), None, None);

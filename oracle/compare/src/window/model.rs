@@ -1,5 +1,5 @@
-//! Document 01's window, written from its text alone: the record that drops no token, the refusals of W lent slots, and what stands in them.
-//! A script runs from opening on, over one source and one room, so refusal 24 (forged state) cannot arise in it.
+//! Document 01's window, written from its text alone: the record that drops no token, the refusals of W lent slots, and what stands in
+//! them. A script runs from opening on, over one source and one room, so refusal 24 (forged state) cannot arise in it.
 
 /// Kind, start and end.
 pub type Token = [u32; 3];

@@ -1,4 +1,4 @@
--- By the first byte one family of rules is left (first_bytes/specs/Families), and that family's hit is the answer.
+-- By the first byte one family of rules is left (specs/Families), and that family's hit is the answer.
 -- Assumes nothing.
 use mathlib.Core.Path.{refl, sym, _∙_}
 use mathlib.Core.List.{[], _∷_, map}
