@@ -9,7 +9,6 @@ use native.Mathlib.Nat.{zero-add}
 use borrow.Author.Tests.{le-leb, leb-true, leb-false, lt-ltb, le-ltb}
 use lib.ListN.{length, getD}
 use lib.Dec.{leb}
-use Rattle.refusals.specs.declared.Refusal.the-variants.{WindowFull}
 use Rattle.refusals.specs.Calls.{Reply, reply}
 use Rattle.scripts.specs.Tables.{below, no-entry}
 use Rattle.tokens.specs.NoneOf.{NoneOf}
@@ -21,8 +20,7 @@ use Rattle.reader.specs.declared.Reader.{Reader}
 use Rattle.reader.specs.Reading.{source-limit, ahead}
 use Rattle.token_room.specs.Room.{slots-in, nth, write-all}
 use Rattle.fetching.specs.declared.Fetched.{Fetched}
-use Rattle.fetching.specs.declared.Fetched.the-variants.{Upto, Refused}
-use Rattle.fetching.specs.Fetching.{Outcome, outcome, fetched}
+use Rattle.fetching.specs.Fetching.{Answer, upto, refused, fetched, fetched-told, outcome}
 use Rattle.c_functions.specs.Answers.{Lent, lent}
 use Rattle.c_functions.specs.TokensAt.{tokens-from, in-modes, tokens-at}
 
@@ -40,17 +38,17 @@ module _ (src : List ℕ) (place : ℕ) (mode : Mode) (out : List ℕ) (count : 
     all = list-from tables-1 src place mode .tokens
 
     -- what fetching all of them answers and leaves, by whether there are slots for them
-    abbrev fetched-if : Bool → Outcome
+    abbrev fetched-if : Bool → Reply Answer (List ℕ)
     fetched-if t =
-        cond t (outcome (Upto (ahead (length src) src reader .reader) (nth (0 + length all))) (write-all out 0 all)) (outcome (Refused WindowFull) out)
+        cond t (reply (upto (ahead (length src) src reader .reader) (nth (0 + length all))) (write-all out 0 all)) (reply (refused 2) out)
 
     -- what it says of rattle_tokens
-    abbrev pub Leaves : Fetched → List ℕ → Type 0
-    Leaves (Upto r next) o = reply 0 (lent o (next .0)) ≡ tokens-from src place mode out count
-    Leaves (Refused n) o = reply 15 (lent o count) ≡ tokens-from src place mode out count
+    abbrev pub Leaves : Answer → List ℕ → Type 0
+    Leaves (upto r next) o = reply 0 (lent o (next .0)) ≡ tokens-from src place mode out count
+    Leaves (refused n) o = reply 15 (lent o count) ≡ tokens-from src place mode out count
 
     module _ (inside : place ≤ length src) where
-      if-leaves : (t : Bool) → leb (length all) (slots-in (length out)) ≡ t → Leaves (fetched-if t .answer) (fetched-if t .room)
+      if-leaves : (t : Bool) → leb (length all) (slots-in (length out)) ≡ t → Leaves (fetched-if t .answer) (fetched-if t .after)
       unfolding tokens-from
       if-leaves true q =
           rw (
@@ -66,10 +64,10 @@ module _ (src : List ℕ) (place : ℕ) (mode : Mode) (out : List ℕ) (count : 
       fetched-so = rw (le-leb (length src) source-limit limit, le-leb place (length src) inside, le-leb 0 place (omega arith))
 
       pub from-fetched : (y : Fetched) {g : Fetched} {o : List ℕ} {w : ℕ} → g ≡ y → w ≡ slots-in (length out)
-          → outcome g o ≡ fetched src reader out (nth 0) (length src) w → Leaves y o
+          → outcome g o ≡ fetched src reader out (nth 0) (length src) w → Leaves (fetched-told y) o
       from-fetched y {g} {o} told slots e =
           let f : outcome y o ≡ fetched-if (leb (length all) (slots-in (length out))) = rw (← told, ← fetched-so, ← slots) e in
-          subst (λ (x : Outcome). Leaves (x .answer) (x .room)) (sym f) (if-leaves (leb (length all) (slots-in (length out))) refl)
+          subst (λ (x : Reply Answer (List ℕ)). Leaves (x .answer) (x .after)) (sym f) (if-leaves (leb (length all) (slots-in (length out))) refl)
 
 -- A source over the limit; the mode of a number, and a number that is none.
 module _ (src : List ℕ) (place n : ℕ) (out : List ℕ) (count : ℕ) where
