@@ -46,6 +46,7 @@ abbrev pub moved : Scanned → Answer
 moved scanned.End = end
 moved (scanned.Found x m) = found x (record { place = x .end; mode = m })
 
+-- A scan: the definition's, at the reader's place and in its mode.
 abbrev pub scan-of : List ℕ → Reader → Answer
 scan-of src r = cond (sound src r) (moved (scan tables-1 src (r .place .0) (r .mode))) (refused 24)
 

@@ -1,6 +1,6 @@
 -- Opening the window is opening the reader: both refuse a source over the limit, and the reader starts where the window does. The window
 -- that a refused opening gives back is one for a longer source than any call takes. Assumes nothing.
-use Prim.Native.Nat.{ℕ, _≤_}
+use Prim.Native.Nat.{ℕ}
 use mathlib.Core.Path.{_≡_}
 use mathlib.Core.Bool.{false}
 use mathlib.Core.List.{List}

@@ -4,8 +4,8 @@ use Prim.Native.Nat.{ℕ}
 use mathlib.Core.List.{List}
 use Rattle.tokens.specs.declared.TokenIndex.{TokenIndex}
 use Rattle.refusals.specs.declared.DoneAnswer.{DoneAnswer}
-use Rattle.reader.specs.declared.Reader.{Reader}
 use Rattle.refusals.specs.Calls as calls
+use Rattle.reader.specs.declared.Reader.{Reader}
 use Rattle.token_record.specs.Record.{done, refused, Reply, reply}
 use Rattle.fetching.specs.Fetching as fetching
 use Rattle.window.specs.declared.Window.{Window}
