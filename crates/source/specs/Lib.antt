@@ -2,3 +2,4 @@
 pub mod Sources
 pub mod Next
 pub mod Determined
+pub mod Unopened
