@@ -1,5 +1,4 @@
-// The calls on bookmarks and the pop, on a stream whose record is lent: each updates that record itself. Thin: the work is done by the
-// function of the same name on a copy of the record, and what it gives is stored, refused or not. All are proved by one walk of the code.
+// The calls on bookmarks, truncate and pop, on a stream whose record is lent.
 ghost use mathlib.Core.Path.{_≡_};
 ghost use Rattle.refusals.specs.Calls.{reply};
 ghost use Rattle.event_record.specs.Record.{bookmark as bookmark-call, truncate as truncate-call, remove-bookmark, pop as pop-call};

@@ -1,5 +1,4 @@
-// The calls that push, on a stream whose record is lent: each updates that record itself. Thin: the work is done by the function of the
-// same name on a copy of the record, and what it gives is stored, refused or not. All are proved by one walk of the code.
+// The calls that push, on a stream whose record is lent.
 ghost use mathlib.Core.Path.{_≡_};
 ghost use Rattle.refusals.specs.Calls.{reply};
 ghost use Rattle.event_record.specs.Record.{push-token, push-error};

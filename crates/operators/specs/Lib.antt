@@ -1,2 +1,2 @@
--- The laws of operators and of the other signs.
+-- The laws of a hex byte; those of operators and newlines are places' (Signs).
 pub mod HexByte

@@ -1,4 +1,4 @@
--- A token source, and its next token.
+-- A token source (Sources), its next token (Next), and their laws.
 pub mod Sources
 pub mod Next
 pub mod Determined

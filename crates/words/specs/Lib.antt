@@ -1,4 +1,4 @@
--- The laws of words and of keywords.
+-- The kind of a word (Keywords), and the laws of words and of keywords.
 pub mod Tail
 pub mod Digits
 pub mod Keywords
