@@ -106,7 +106,7 @@ fn kind(asked: Asked) -> u16
     (asked.arg % 65536) as u16
 }
 
-// What a call gives, its answer as numbers: of all calls but bookmark and pop; of bookmark; of pop.
+// What a call gives that answers done, as numbers.
 fn done(given: DoneGiven) -> ToldGiven
     ensures { λ r. ⌜ (told-numbers (r .told) ≡ numbers (done-told (given .answer))) × (r .stream ≡ given .stream) ⌝ }
 {
@@ -119,6 +119,7 @@ fn done(given: DoneGiven) -> ToldGiven
     ToldGiven { told, stream }
 }
 
+// What bookmark gives, as numbers.
 fn position(given: PositionGiven) -> ToldGiven
     ensures { λ r. ⌜ (told-numbers (r .told) ≡ numbers (position-told (given .answer))) × (r .stream ≡ given .stream) ⌝ }
 {
@@ -131,6 +132,7 @@ fn position(given: PositionGiven) -> ToldGiven
     ToldGiven { told, stream }
 }
 
+// What pop gives, as numbers.
 fn event(given: EventGiven) -> ToldGiven
     ensures { λ r. ⌜ (told-numbers (r .told) ≡ numbers (event-told (given .answer))) × (r .stream ≡ given .stream) ⌝ }
 {
@@ -144,7 +146,7 @@ fn event(given: EventGiven) -> ToldGiven
     ToldGiven { told, stream }
 }
 
-// The numbers of an event, of a refusal, and of an answer with at most one value.
+// The numbers of an event.
 fn popped(event: Event) -> Told
     ensures { λ r. ⌜ told-numbers r ≡ numbers (event-answer event) ⌝ }
 {
@@ -157,12 +159,14 @@ fn popped(event: Event) -> Told
     }
 }
 
+// The numbers of a refusal.
 fn refused(refusal: Refusal) -> Told
     ensures { λ r. ⌜ told-numbers r ≡ numbers (refused-by (number-of refusal)) ⌝ }
 {
     value(5, refusals::number(refusal) as usize)
 }
 
+// The numbers of an answer with at most one value.
 fn value(tag: usize, first: usize) -> Told
     ensures { λ r. ⌜ r ≡ single tag first ⌝ }
 {

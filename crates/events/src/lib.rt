@@ -28,6 +28,7 @@ use tokens::Offset;
 // Where a span ends at the latest, and how many bookmarks can live.
 pub const SPAN_LIMIT: u32 = 65535;
 
+// How many bookmarks can live.
 pub const BOOKMARKS: u32 = 65535;
 
 // The stream's own record. `slots` and `places` are how many event slots and open places were lent at opening; `front` is the slot of the
@@ -58,17 +59,19 @@ pub enum EventAnswer {
     Refused(Refusal),
 }
 
-// Each answer with the stream after it. A refused call gives back the stream as it was.
+// What a call gives that answers done, and the stream after it. A refused call gives back the stream as it was, here and below.
 pub struct DoneGiven {
     pub answer: DoneAnswer,
     pub stream: Stream,
 }
 
+// What bookmark gives.
 pub struct PositionGiven {
     pub answer: PositionAnswer,
     pub stream: Stream,
 }
 
+// What pop gives.
 pub struct EventGiven {
     pub answer: EventAnswer,
     pub stream: Stream,

@@ -11,6 +11,7 @@ use window::TokenAnswer;
 use window::TokenGiven;
 use window::Window;
 
+// Writes bytes to standard output.
 fn write(text: &[u8]) {
     io::write_all(STDOUT_FILENO, text);
 }
@@ -29,11 +30,13 @@ fn say_place(kind: u32, start: u32, end: u32) {
     write(b"\n");
 }
 
+// Writes why a call was refused, by its number.
 fn say_refusal(refusal: Refusal) {
     say(b" refused ", refusals::number(refusal));
     write(b"\n");
 }
 
+// Writes a token behind a word, and gives the window to go on with.
 fn say_token(word: &[u8], given: TokenGiven) -> Window {
     write(word);
     let answer = given.answer;
@@ -45,6 +48,7 @@ fn say_token(word: &[u8], given: TokenGiven) -> Window {
     given.window
 }
 
+// Writes an event, and gives the stream to go on with.
 fn say_event(given: EventGiven) -> Stream {
     let answer = given.answer;
     match answer {

@@ -50,23 +50,25 @@ pub enum IndexAnswer {
     Refused(Refusal),
 }
 
-// Each answer with the window after it. A refused call gives back the window as it was; refused opening, one that every later call refuses
-// by 24.
+// What next and peek give: the answer, and the window after it. A refused call gives back the window as it was, here and below.
 pub struct TokenGiven {
     pub answer: TokenAnswer,
     pub window: Window,
 }
 
+// What has_more gives.
 pub struct MoreGiven {
     pub answer: MoreAnswer,
     pub window: Window,
 }
 
+// What bookmark and the current index give.
 pub struct IndexGiven {
     pub answer: IndexAnswer,
     pub window: Window,
 }
 
+// What the other calls give; opening too, which gives back, refused, a window that every later call refuses by 24.
 pub struct DoneGiven {
     pub answer: DoneAnswer,
     pub window: Window,
