@@ -29,7 +29,10 @@ uint32_t rattle_listing(const uint8_t *src, size_t src_len, uint8_t *out, size_t
  * one and its values, the others 0. A number that is no call's asks for the index; a last odd number is no call. The room has three
  * numbers a slot.
  * 1: the source has more than 65,535 bytes; 15: `answers` has no room for an answer to each call. */
-enum { RATTLE_NEXT, RATTLE_PEEK, RATTLE_HAS_MORE, RATTLE_BOOKMARK, RATTLE_RESTORE, RATTLE_REMOVE, RATTLE_ENTER_PATTERN, RATTLE_ENTER_JUMP, RATTLE_INDEX };
+enum {
+    RATTLE_NEXT, RATTLE_PEEK, RATTLE_HAS_MORE, RATTLE_BOOKMARK, RATTLE_RESTORE, RATTLE_REMOVE, RATTLE_ENTER_PATTERN, RATTLE_ENTER_JUMP,
+    RATTLE_INDEX
+};
 uint32_t rattle_window(const uint8_t *src, size_t src_len, const uint32_t *script, size_t script_len, uint32_t *room, size_t room_len,
                        uint32_t *answers, size_t answers_len);
 
@@ -38,7 +41,9 @@ uint32_t rattle_window(const uint8_t *src, size_t src_len, const uint32_t *scrip
  * number that is no call's pops; up to three numbers that are left over are no call. The room has four numbers a slot, `opens` one a
  * place.
  * 15: `answers` has no room for an answer to each call. */
-enum { RATTLE_TOKEN, RATTLE_ERROR, RATTLE_BEGIN, RATTLE_END, RATTLE_END_WITH_ERROR, RATTLE_MARK, RATTLE_TRUNCATE, RATTLE_UNMARK, RATTLE_POP };
+enum {
+    RATTLE_TOKEN, RATTLE_ERROR, RATTLE_BEGIN, RATTLE_END, RATTLE_END_WITH_ERROR, RATTLE_MARK, RATTLE_TRUNCATE, RATTLE_UNMARK, RATTLE_POP
+};
 uint32_t rattle_events(const uint32_t *script, size_t script_len, uint32_t *room, size_t room_len, size_t *opens, size_t opens_len,
                        size_t *answers, size_t answers_len);
 
