@@ -8,7 +8,8 @@ const SOURCE: &str = include_str!("../../../docs/src/src/tokenizer/mod.rs");
 /// The operators and brackets in document 01's order, which numbers them from 41 on.
 #[rustfmt::skip]
 const OPERATORS: [&str; 27] = [
-    "<<", ">>", "==", "!=", "<=", ">=", "<", ">", "&", "*", "\\", ":", ",", ".", "=", "+", "-", "%", "|", "^", "~", "{", "}", "(", ")", "[", "]",
+    "<<", ">>", "==", "!=", "<=", ">=", "<", ">", "&", "*", "\\", ":", ",", ".", "=", "+", "-", "%", "|", "^", "~",
+    "{", "}", "(", ")", "[", "]",
 ];
 
 /// A pattern of a mode.
