@@ -1,4 +1,6 @@
 // The bookmarks: an array of 64 token indexes, of which the first `live` are in use, in order, and the others 0; and the tests of it.
+#![tactic(auto)]
+
 ghost use Rattle.std.specs.Prelude.{◌≤◌, ◌≡◌, take, drop};
 ghost use Rattle.bookmarks.specs.Bookmarks.{in_order, unused, held, low_of};
 

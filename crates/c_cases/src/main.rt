@@ -6,6 +6,8 @@
 // Behind `;` stands the script, a space before each number; behind `|` the source. Without `|` it is of the most bytes, all of them
 // spaces; with `+` of one more. `Most BYTES` lists the source of the most tokens; of the bytes that are lent for a listing the last 30
 // are written.
+#![tactic(auto)]
+
 mod calls;
 mod cases;
 mod say;

@@ -1,6 +1,8 @@
 // The C functions of an event stream whose record stands as numbers in the caller's memory: numbers and slices, so that C and Rust can call
 // them. Each answers a status: 0 where the call is done, or has found what was asked for; 100 where there is none; else the number of the
 // refusal.
+#![tactic(auto)]
+
 ghost use Rattle.std.specs.Prelude.{◌≡◌, length};
 ghost use Rattle.event_record.specs.Record.{push_token, push_error, begin, end as end-node, end_with_error, bookmark, truncate, remove_bookmark, pop, span as Span-of, at};
 ghost use Rattle.event_room.specs.Room.{slots_in};

@@ -1,4 +1,6 @@
 // The C functions, a module each, on numbers and slices: C and Rust can call them. Here is what they share: the number of an answer.
+#![tactic(auto)]
+
 ghost use Rattle.std.specs.Prelude.{◌≡◌};
 ghost use Rattle.c_functions.specs.Answers.{status_of};
 

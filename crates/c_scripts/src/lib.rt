@@ -1,6 +1,8 @@
 // The C functions of a script of calls, on a window and on an event stream: numbers and slices, so that C and Rust can call them. Each
 // answers a status: 0 where the script is run, else the number of the refusal. They are compiled apart from the C functions of single
 // calls, since what has callers in both would be inlined in neither.
+#![tactic(auto)]
+
 ghost use Rattle.std.specs.Prelude.{◌≡◌};
 ghost use Rattle.window.specs.Scripting.{written};
 ghost use Rattle.window_scripts.specs.Script.{replayed};

@@ -1,5 +1,7 @@
 // The C functions of a source: its tokens, all of them or as many as fit, and its listing; and the library's version. Numbers and slices,
 // so that C and Rust can call them. Each answers a status: 0 where the call is done, else the number of the refusal.
+#![tactic(auto)]
+
 ghost use Rattle.std.specs.Prelude.{◌≡◌};
 
 mod listing;

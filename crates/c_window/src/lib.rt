@@ -1,5 +1,7 @@
 // The C functions of a window that stands as numbers in the caller's memory: numbers and slices, so that C and Rust can call them. Each
 // answers a status: 0 where the call is done, or has found what was asked for; 100 where there is none; else the number of the refusal.
+#![tactic(auto)]
+
 ghost use Rattle.std.specs.Prelude.{◌≡◌};
 ghost use Rattle.token_record.specs.Record.{next_token, peek_token, has_more};
 ghost use Rattle.token_record.specs.Record.{bookmark, restore_bookmark, remove_bookmark};

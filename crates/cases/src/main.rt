@@ -1,6 +1,8 @@
 // Runs document 01's cases on the scanner: its marked case that is run, the limit, forged readers, switches and bad input; then
 // some of them on a token source.
 // Each group writes what it finds; the file stdout has what document 01 says.
+#![tactic(auto)]
+
 mod cut_off;
 mod lengths;
 mod modes;

@@ -52,7 +52,7 @@ fn switches(mode: Mode) {
 }
 
 // A token that is one byte: its kind, and the mode reached. Kind 0 says that the token is not that byte.
-#[derive(Drop)]
+#[derive(Clone, Copy)]
 pub(crate) struct OneByte {
     pub(crate) kind: u32,
     pub(crate) mode: Mode,

@@ -5,7 +5,7 @@ use refusals::Refusal;
 use tokens::{Mode, Offset, Token};
 
 // How a reader went through a source: the number of tokens, the last of them, and the reader after it.
-#[derive(Drop)]
+#[derive(Clone, Copy)]
 struct Reading {
     tokens: usize,
     last: Token,

@@ -1,4 +1,6 @@
 // Classes of bytes: each function is the class of that name of the definition.
+#![tactic(auto)]
+
 ghost use Rattle.std.specs.Prelude.{◌≡◌};
 ghost use Rattle.tokens.specs.Tokens.{letter, dec, oct, hex, word_start, hex_or_mark};
 

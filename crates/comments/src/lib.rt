@@ -1,4 +1,6 @@
 // Comments: where the one at a place ends.
+#![tactic(auto)]
+
 ghost use Rattle.std.specs.Prelude.{◌+◌, ◌≡◌, drop};
 ghost use Rattle.patterns.specs.Pattern.{byte, char, longest};
 ghost use Rattle.tokens.specs.Tokens.{block_comment, line_comment};

@@ -4,7 +4,7 @@ use events::Stream;
 use lines::Asked;
 
 // The rooms are the first `numbers` of the numbers to lend, and the first `places` of the places.
-#[derive(Drop)]
+#[derive(Clone, Copy)]
 pub(crate) struct Bench {
     stream: Stream,
     numbers: usize,

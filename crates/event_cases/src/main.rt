@@ -7,6 +7,7 @@
 // they are. `lend N D` lends N numbers for event slots and D open places, each 7, or as many as there are; `view` says the stream and
 // both rooms. A capital letter sets a field of the stream's record: E, D, Front, Count, Opened, Bookmarks, Last S E, Gone S E, Popped; or
 // a number of the rooms: Room I N, Inner I N.
+#![tactic(auto)]
 
 mod bench;
 mod calls;

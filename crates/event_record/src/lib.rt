@@ -1,4 +1,6 @@
 // The events' types, and names for document 01's tags. What the calls of an event stream answer stands in specs/, over a plain list.
+#![tactic(auto)]
+
 use tokens::Offset;
 
 // What an event is.
@@ -14,14 +16,14 @@ pub const ERROR: u32 = 3;
 pub const ERROR_KIND: u32 = 0;
 
 // From where to where in the source, the end excluded.
-#[derive(Drop)]
+#[derive(Clone, Copy)]
 pub struct Span {
     pub start: Offset,
     pub end: Offset,
 }
 
 // An event: its tag, its kind (an Error's is its message), its span.
-#[derive(Drop)]
+#[derive(Clone, Copy)]
 pub struct Event {
     pub tag: u32,
     pub kind: u32,
@@ -29,5 +31,5 @@ pub struct Event {
 }
 
 // The place of an event among the others, counted from the front.
-#[derive(Drop)]
+#[derive(Clone, Copy)]
 pub struct Position(pub usize);

@@ -1,4 +1,6 @@
 // The lent room of the events: slots of four numbers each (tag, kind or message, start, end), and the ring that they are (`ring`).
+#![tactic(auto)]
+
 ghost use Rattle.std.specs.Prelude.{◌≡◌, ◌+◌, ◌*◌, ◌≤◌, length};
 ghost use Rattle.event_room.specs.Room.{width, slots_in, write_at, read_at, write, read};
 

@@ -11,7 +11,7 @@ use refusals::{DoneAnswer, Refusal};
 use tokens::Offset;
 
 // A call: which one, and its arguments.
-#[derive(Drop)]
+#[derive(Clone, Copy)]
 pub struct Asked {
     pub op: u32,
     pub arg: u32,
@@ -20,7 +20,7 @@ pub struct Asked {
 }
 
 // An answer: which one, and its values.
-#[derive(Drop)]
+#[derive(Clone, Copy)]
 pub struct Told {
     pub tag: usize,
     pub first: usize,
@@ -30,7 +30,7 @@ pub struct Told {
 }
 
 // An answer with the stream after it.
-#[derive(Drop)]
+#[derive(Clone, Copy)]
 pub struct ToldGiven {
     pub told: Told,
     pub stream: Stream,

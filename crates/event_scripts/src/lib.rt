@@ -1,4 +1,6 @@
 // Replays a script of calls through the event stream's public calls. That its answers are the plain list's is proved of the code itself.
+#![tactic(auto)]
+
 ghost use Rattle.std.specs.Prelude.{◌+◌, ◌*◌, ◌≤◌, ◌≡◌, length};
 ghost use Rattle.std.proofs.lemmas.List.Edits.{sets};
 ghost use Rattle.scripts.specs.Scripts.{call_at};

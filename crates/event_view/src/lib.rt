@@ -1,1 +1,2 @@
 // The event stream without its rings. It stands in specs/: theorems, not a program.
+#![tactic(auto)]

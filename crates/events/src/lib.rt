@@ -1,5 +1,7 @@
 // The event stream: the nodes, tokens and errors that a parser finds, in order, in a ring of slots that is lent. Its record, the answers,
 // and the steps that more than one call is made of; each group of calls has a module.
+#![tactic(auto)]
+
 ghost use Rattle.std.specs.Prelude.{◌+◌, ◌-◌, ◌≡◌, length};
 ghost use Rattle.event_room.specs.Room.{slots_in};
 ghost use Rattle.events.specs.Stream.{fresh};
@@ -29,7 +31,7 @@ pub const BOOKMARKS: u32 = 65535;
 // The stream's own record. `slots` and `places` are how many event slots and open places were lent at opening; `front` is the slot of the
 // first of `count` events; `opened` nodes are open, `bookmarks` live; `last` is the last token, `gone` the last token popped, and
 // `popped` says whether anything was popped.
-#[derive(Drop)]
+#[derive(Clone, Copy)]
 pub struct Stream {
     pub slots: usize,
     pub places: usize,
@@ -43,14 +45,14 @@ pub struct Stream {
 }
 
 // What bookmark answers.
-#[derive(Drop)]
+#[derive(Clone, Copy)]
 pub enum PositionAnswer {
     Position(Position),
     Refused(Refusal),
 }
 
 // What pop answers: an event; none, the stream being empty; or a refusal.
-#[derive(Drop)]
+#[derive(Clone, Copy)]
 pub enum EventAnswer {
     Event(Event),
     None,
@@ -58,21 +60,21 @@ pub enum EventAnswer {
 }
 
 // What a call gives that answers done, and the stream after it. A refused call gives back the stream as it was, here and below.
-#[derive(Drop)]
+#[derive(Clone, Copy)]
 pub struct DoneGiven {
     pub answer: DoneAnswer,
     pub stream: Stream,
 }
 
 // What bookmark gives.
-#[derive(Drop)]
+#[derive(Clone, Copy)]
 pub struct PositionGiven {
     pub answer: PositionAnswer,
     pub stream: Stream,
 }
 
 // What pop gives.
-#[derive(Drop)]
+#[derive(Clone, Copy)]
 pub struct EventGiven {
     pub answer: EventAnswer,
     pub stream: Stream,

@@ -1,4 +1,6 @@
 // What an editor does with the library: it looks ahead, goes back without losing a token, and hands on what it found as events.
+#![tactic(auto)]
+
 use event_record::Span;
 use events::{EventAnswer, EventGiven, Stream};
 use libc::STDOUT_FILENO;

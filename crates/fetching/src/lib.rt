@@ -1,4 +1,6 @@
 // Fetching: the tokens from a reader on go into their slots of the lent room, unless they are too many.
+#![tactic(auto)]
+
 ghost use Rattle.std.specs.Prelude.{◌≤◌, ◌≡◌, ◌&&◌, length, leb, ltb};
 ghost use Rattle.reader.specs.Reading.{sound, ahead};
 ghost use Rattle.reader.specs.Following.{Sound, rest};
@@ -10,14 +12,14 @@ use refusals::Refusal;
 use tokens::TokenIndex;
 
 // What fetching answers: the reader behind the tokens, and the index that comes next; or a refusal.
-#[derive(Drop)]
+#[derive(Clone, Copy)]
 pub enum Fetched {
     Upto(Reader, TokenIndex),
     Refused(Refusal),
 }
 
 // Where storing has come to: the reader behind the tokens, and the index that comes next.
-#[derive(Drop)]
+#[derive(Clone, Copy)]
 struct Stored {
     reader: Reader,
     next: TokenIndex,

@@ -1,4 +1,6 @@
 // A number of 64 bits as two of 32, the low one first.
+#![tactic(auto)]
+
 ghost use Rattle.std.specs.Prelude.{◌≡◌};
 ghost use Rattle.halves.specs.Halves.{join, low_of, high_of};
 

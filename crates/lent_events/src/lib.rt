@@ -1,5 +1,7 @@
 // The event stream's calls on a stream whose record is lent: each updates that record itself. Thin: the method of the same name does the
 // work on a copy of the record, and what it gives is stored, refused or not. All nine are proved by one walk of the code (specs/).
+#![tactic(auto)]
+
 mod marking;
 mod nodes;
 mod pushing;

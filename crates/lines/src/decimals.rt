@@ -5,7 +5,7 @@ ghost use Rattle.lines.specs.Decimals.{grown, spelled, starts, behind};
 use classes::is_dec;
 
 // A number, and the place after its last digit.
-#[derive(Drop)]
+#[derive(Clone, Copy)]
 pub struct Number {
     pub value: usize,
     pub end: usize,

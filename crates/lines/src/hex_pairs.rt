@@ -5,7 +5,7 @@ ghost use Rattle.lines.specs.Hex.{hex_value, byte_of, pair, Decodes};
 use classes::is_dec;
 
 // What was decoded: how many bytes, and where their digits end in the text.
-#[derive(Drop)]
+#[derive(Clone, Copy)]
 pub struct Decoded {
     pub len: usize,
     pub end: usize,

@@ -1,4 +1,6 @@
 // What the programs of the gate read from a text of lines: where a byte comes next, and what a line asks for by a letter and numbers.
+#![tactic(auto)]
+
 ghost use Rattle.std.specs.Prelude.{min, ◌≡◌};
 ghost use Rattle.lines.specs.Lines.{next_byte, asked};
 
@@ -10,7 +12,7 @@ pub use hex_pairs::{Decoded, decode};
 use places::byte_at;
 
 // What a line asks for: its first letter, 0 where it is empty; and the numbers behind the first three spaces, 0 where there are none.
-#[derive(Drop)]
+#[derive(Clone, Copy)]
 pub struct Asked {
     pub letter: u8,
     pub first: usize,

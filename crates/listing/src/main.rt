@@ -1,4 +1,6 @@
 // Lists the tokens of standard input as document 01 has it: the source is read in normal mode, and an over-long one is refused.
+#![tactic(auto)]
+
 use libc::{STDERR_FILENO, STDIN_FILENO, STDOUT_FILENO};
 use listing_text::Listed;
 use refusals::Refusal;

@@ -1,4 +1,6 @@
 // The listing of a source, as document 01 shows it, written into a lent buffer. What its text is stands in specs/Listing.
+#![tactic(auto)]
+
 ghost use Rattle.std.specs.Prelude.{◌+◌, ◌≤◌, ◌<◌, ◌≡◌, length};
 ghost use Rattle.std.proofs.Math.Seq.{slice};
 ghost use Rattle.reader.specs.Following.{Sound, rest};
@@ -15,7 +17,7 @@ use refusals::Refusal;
 use tokens::Token;
 
 // What listing answers: how many bytes the text has that stands at the front of what was lent; or a refusal.
-#[derive(Drop)]
+#[derive(Clone, Copy)]
 pub enum Listed {
     Written(usize),
     Refused(Refusal),
@@ -47,7 +49,7 @@ fn put_text(out: &mut [u8], src: &[u8], start: Reader) -> usize
 }
 
 // How many lines were put, and the place behind.
-#[derive(Drop)]
+#[derive(Clone, Copy)]
 struct Lines {
     tokens: u32,
     behind: usize,

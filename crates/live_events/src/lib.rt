@@ -1,5 +1,7 @@
 // The event stream's calls on a record that stands as numbers in memory of the caller's between them. Each reads the numbers, makes the
 // stream's own call and stores what it changes: nothing where it is refused. Numbers that no record has are refused by 24.
+#![tactic(auto)]
+
 ghost use Rattle.std.specs.Prelude.{◌≡◌, length};
 ghost use Rattle.event_record.specs.Record.{push_token, push_error, begin as begin-node, end as end-node, end_with_error, bookmark as set-bookmark, truncate as truncate-to, remove_bookmark, pop as pop-first, reply};
 ghost use Rattle.event_room.specs.Room.{slots_in};

@@ -1,4 +1,6 @@
 // The scanner's modes by number, for memory that is not Rattle's: 0 normal, 1 pattern, 2 jump.
+#![tactic(auto)]
+
 ghost use Rattle.std.specs.Prelude.{◌≡◌};
 ghost use Rattle.modes.specs.Modes.{mode_of, number_of};
 

@@ -1,4 +1,6 @@
 // Numbers: the integers and the floats of normal mode, and the integers of jump mode.
+#![tactic(auto)]
+
 ghost use Rattle.std.specs.Prelude.{◌≡◌, ◌+◌, drop};
 ghost use Rattle.patterns.specs.Pattern.{walk, longest};
 ghost use Rattle.patterns.specs.Walk.{span};
@@ -8,14 +10,14 @@ ghost use Rattle.numbers.specs.Parts.{digit, run, digits, base_at, suffix, fract
 use places::has_byte;
 
 // Where the integer and the float end that start at one place; the place itself where there is none.
-#[derive(Drop)]
+#[derive(Clone, Copy)]
 pub struct Ends {
     pub integer: usize,
     pub float: usize,
 }
 
 // The bases of integers.
-#[derive(Drop)]
+#[derive(Clone, Copy)]
 enum Base {
     Octal,
     Decimal,

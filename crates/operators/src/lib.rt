@@ -1,4 +1,6 @@
 // The operators of normal mode. A hit of kind 0 and length 0 says that there is none.
+#![tactic(auto)]
+
 ghost use Rattle.std.specs.Prelude.{◌≡◌, map, drop};
 ghost use Rattle.tokens.specs.Tokens.{spelled, operators};
 ghost use Rattle.tokens.specs.Scan.{best};

@@ -3,7 +3,7 @@
 use Rattle.std.specs.Prelude.{ℕ, zero, suc, ◌≡◌, refl, Bool, true, false, cond, ◌↔◌, ◌⊎◌, List, [], ◌∷◌, ◌++◌, length}
 use Rattle.std.proofs.Common.{sym, ap, ◌∙◌, inl, inr, ⊎_elim, append_assoc, arith}
 use Rattle.std.proofs.lemmas.Bool.{false≢true}
-use Rattle.std.proofs.Math.Logic.{Iff·rfl, Iff·symm, Iff·trans}
+use mathlib.Core.Logic.Iff
 use Rattle.patterns.specs.declared.Front.{Front}
 use Rattle.patterns.specs.declared.Front.TheVariants.{Whole, Broken}
 use Rattle.patterns.specs.declared.Lead.{Lead}
@@ -48,7 +48,7 @@ either_means a r u = go (is_nothing a) (is_nothing r) refl refl
     go : (t t' : Bool) → is_nothing a ≡ t → is_nothing r ≡ t' → Matches (cond t r (cond t' a (alt a r))) u ↔ (Matches a u ⊎ Matches r u)
     go true t' e f = (inr, ⊎_elim (λ m. absurd (none_of_nothing a u e m)) (λ m. m))
     go false true e f = (inl, ⊎_elim (λ m. m) (λ m. absurd (none_of_nothing r u f m)))
-    go false false e f = Iff·rfl
+    go false false e f = Iff.rfl
 
 pub follow_means : (a r : Pat) (u : List ℕ) → Matches (follow a r) u ↔ Matches (seq a r) u
 follow_means nothing r u = (λ m. absurd m, λ m. m.first)
@@ -56,9 +56,9 @@ follow_means empty r u = (
   λ m. record { front = []; back = u; joined = refl; first = refl; second = m },
   λ m. rw (m.joined, m.first) m.second,
 )
-follow_means (byte p) r u = Iff·rfl
-follow_means (char p) r u = Iff·rfl
-follow_means (part p low high k bits) r u = Iff·rfl
+follow_means (byte p) r u = Iff.rfl
+follow_means (char p) r u = Iff.rfl
+follow_means (part p low high k bits) r u = Iff.rfl
 follow_means (seq a b) r u = (
   λ m.
       let n : Matches (seq b r) m.back = (follow_means b r m.back).0 m.second in
@@ -78,11 +78,11 @@ follow_means (seq a b) r u = (
         second = (follow_means b r (m.first.back ++ m.back)).1 (record { front = m.first.back; back = m.back; joined = refl; first = m.first.second; second = m.second });
       },
 )
-follow_means (alt a b) r u = Iff·rfl
-follow_means (star a) r u = Iff·rfl
+follow_means (alt a b) r u = Iff.rfl
+follow_means (star a) r u = Iff.rfl
 
 pub follow_same : (a a' r r' : Pat) → Same a a' → Same r r' → Same (follow a r) (follow a' r')
-follow_same a a' r r' f g u = Iff·trans (follow_means a r u) (Iff·trans (split_means f g u) (Iff·symm (follow_means a' r' u)))
+follow_same a a' r r' f g u = Iff.trans (follow_means a r u) (Iff.trans (split_means f g u) (Iff.symm (follow_means a' r' u)))
 
 -- The empty text.
 
@@ -213,12 +213,12 @@ seq_means : (a r d e : Pat) (b : ℕ) (s : List ℕ) → ((u : List ℕ) → Mat
 seq_means a r d e b s f g = go
   where
     first : Matches (follow d r) s ↔ Split (λ u. Matches a (b ∷ u)) (λ u. Matches r u) s
-    first = Iff·trans (follow_means d r s) (split_means f (λ u. Iff·rfl) s)
+    first = Iff.trans (follow_means d r s) (split_means f (λ u. Iff.rfl) s)
 
     go : (t : Bool) → nullable a ≡ t → Matches (elim t [ true ↦ either (follow d r) e | false ↦ follow d r ]) s ↔ Matches (seq a r) (b ∷ s)
     go true q =
-        Iff·trans (either_means (follow d r) e s)
-        (Iff·trans (sum_means first (λ m. ((null_means a).0 q, g.0 m), λ m. g.1 m.1)) (Iff·symm (split_cons b s)))
+        Iff.trans (either_means (follow d r) e s)
+        (Iff.trans (sum_means first (λ m. ((null_means a).0 q, g.0 m), λ m. g.1 m.1)) (Iff.symm (split_cons b s)))
     go false q = (
       λ m. (split_cons b s).1 (inl (first.0 m)),
       λ m. first.1 (⊎_elim (λ n. n) (λ n. absurd (false≢true (sym q ∙ (null_means a).1 n.0))) ((split_cons b s).0 m)),
@@ -226,13 +226,13 @@ seq_means a r d e b s f g = go
 
 pub deriv_means : (r : Pat) (b : ℕ) (s : List ℕ) → Matches (deriv b r) s ↔ Matches r (b ∷ s)
 unfolding deriv decode
-deriv_means nothing b s = Iff·rfl
+deriv_means nothing b s = Iff.rfl
 deriv_means empty b s = (λ m. absurd m, λ m. no_cons b s (sym m))
 deriv_means (byte p) b s = byte_means p b s
 deriv_means (char p) b s = lead_means p b (lead b) s
 deriv_means (part p low high k bits) b s = part_means p low high k bits b s
 deriv_means (seq a r) b s = seq_means a r (deriv b a) (deriv b r) b s (λ u. deriv_means a b u) (deriv_means r b s) (nullable a) refl
-deriv_means (alt a r) b s = Iff·trans (either_means (deriv b a) (deriv b r) s) (sum_means (deriv_means a b s) (deriv_means r b s))
+deriv_means (alt a r) b s = Iff.trans (either_means (deriv b a) (deriv b r) s) (sum_means (deriv_means a b s) (deriv_means r b s))
 deriv_means (star a) b s =
-    Iff·trans (follow_means (deriv b a) (star a) s)
-    (Iff·trans (split_means (λ u. deriv_means a b u) (λ u. Iff·rfl) s) (Iff·symm (many_cons b s)))
+    Iff.trans (follow_means (deriv b a) (star a) s)
+    (Iff.trans (split_means (λ u. deriv_means a b u) (λ u. Iff.rfl) s) (Iff.symm (many_cons b s)))

@@ -1,4 +1,6 @@
 // What stands at a place of a source: a byte, a text.
+#![tactic(auto)]
+
 ghost use Rattle.std.specs.Prelude.{◌≡◌, drop};
 ghost use Rattle.patterns.specs.Walk.{prefix};
 ghost use Rattle.places.specs.Places.{Has};

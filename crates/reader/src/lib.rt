@@ -1,5 +1,7 @@
 // The reader: where scanning goes on in a source, and in which mode. Opening gives one, a switch moves it to another mode, and a scan
 // (`scanning`) behind a token.
+#![tactic(auto)]
+
 ghost use Rattle.std.specs.Prelude.{◌≡◌};
 ghost use Rattle.tokens.specs.declared.Mode.TheVariants.{HexPattern, HexJump};
 ghost use Rattle.reader.specs.Reading.{open_of, opened_told, entered};
@@ -13,21 +15,21 @@ use tokens::{Mode, Offset, Token};
 pub const SOURCE_LIMIT: usize = 65535;
 
 // Where scanning goes on, and in which mode.
-#[derive(Drop)]
+#[derive(Clone, Copy)]
 pub struct Reader {
     pub place: Offset,
     pub mode: Mode,
 }
 
 // What opening answers.
-#[derive(Drop)]
+#[derive(Clone, Copy)]
 pub enum Opened {
     Ready(Reader),
     Refused(Refusal),
 }
 
 // What a scan answers: no token, the source being at its end; a token, and the reader moved to its end; or a refusal.
-#[derive(Drop)]
+#[derive(Clone, Copy)]
 pub enum Scan {
     End,
     Found(Token, Reader),

@@ -3,6 +3,8 @@
 //
 // A record is a line: a source in hexadecimal, and numbers, each behind a space; include/rattle.h says what they mean. A line that is no
 // record counts as one that differs.
+#![tactic(auto)]
+
 mod outcomes;
 mod record;
 mod sequences;

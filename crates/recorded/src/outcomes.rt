@@ -2,7 +2,7 @@
 use libc::STDOUT_FILENO;
 
 // How a record was answered: how many calls it has, how many answers came before a refusal 2 in the small rooms, and whether all are right.
-#[derive(Drop)]
+#[derive(Clone, Copy)]
 pub(crate) struct Outcome {
     pub(crate) calls: usize,
     pub(crate) small: usize,
@@ -10,7 +10,7 @@ pub(crate) struct Outcome {
 }
 
 // How many records were replayed, how many calls they had and answers in small rooms, and how many records differ.
-#[derive(Drop)]
+#[derive(Clone, Copy)]
 pub(crate) struct Tally {
     records: usize,
     calls: usize,

@@ -5,7 +5,7 @@ use crate::outcomes::Outcome;
 use crate::{outcomes, record};
 
 // How many answers are the recorded ones, before the first that is not; and whether all are, or that one is refusal 2.
-#[derive(Drop)]
+#[derive(Clone, Copy)]
 struct InRoom {
     answers: usize,
     right: bool,

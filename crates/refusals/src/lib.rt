@@ -1,9 +1,11 @@
 // The refusals, by name and by document 01's number.
+#![tactic(auto)]
+
 ghost use Rattle.std.specs.Prelude.{◌≡◌};
 ghost use Rattle.refusals.specs.Refusals.{number_of};
 
 // Why a call is refused.
-#[derive(Drop)]
+#[derive(Clone, Copy)]
 pub enum Refusal {
     // opening: the source is over the limit
     SourceTooLong,
@@ -34,7 +36,7 @@ pub enum Refusal {
 }
 
 // What a call answers that gives nothing else.
-#[derive(Drop)]
+#[derive(Clone, Copy)]
 pub enum DoneAnswer {
     Done,
     Refused(Refusal),

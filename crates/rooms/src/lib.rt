@@ -1,5 +1,6 @@
 // Room that is lent: numbers, read as slots of so many each.
+#![tactic(auto)]
 
 // A slot of a room, counted from its start.
-#[derive(Drop)]
+#[derive(Clone, Copy)]
 pub struct Slot(pub usize);

@@ -1,4 +1,6 @@
 // What is taken at a place of a source, in a mode: the mode's longest match, or what the modes after it take.
+#![tactic(auto)]
+
 ghost use Rattle.std.specs.Prelude.{◌≡◌, [], drop};
 ghost use Rattle.tokens.specs.declared.Mode.TheVariants.{Normal, HexPattern, HexJump};
 ghost use Rattle.tokens.specs.Tokens.{tables_1};

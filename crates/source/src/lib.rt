@@ -1,5 +1,7 @@
 // A token source: it keeps the rule bytes that it was opened on, a place in them and a mode. Thin calls: each takes the struct apart and
 // hands its reader on. They are proved by walks of their code. The next token stands in `reading`.
+#![tactic(auto)]
+
 ghost use Rattle.std.specs.Prelude.{◌≡◌};
 ghost use Rattle.tokens.specs.declared.Mode.TheVariants.{HexPattern, HexJump};
 ghost use Rattle.refusals.specs.Calls.{reply};
@@ -29,7 +31,7 @@ pub struct OpenGiven<'a> {
 }
 
 // The same with a reader in the source's stead, which plain functions can hold.
-#[derive(Drop)]
+#[derive(Clone, Copy)]
 struct Begun {
     answer: DoneAnswer,
     reader: Reader,

@@ -16,7 +16,7 @@ pub struct ScanGiven<'a> {
 }
 
 // The same with a reader in the source's stead, which plain functions can hold.
-#[derive(Drop)]
+#[derive(Clone, Copy)]
 struct Stepped {
     answer: Scan,
     reader: Reader,

@@ -1,4 +1,6 @@
 // White space: runs of blanks, and text that goes on up to white space.
+#![tactic(auto)]
+
 ghost use Rattle.std.specs.Prelude.{◌+◌, ◌<◌, ◌≡◌, length, drop};
 ghost use Rattle.patterns.specs.Utf8.{decode};
 ghost use Rattle.patterns.specs.Pattern.{longest};

@@ -1,5 +1,7 @@
 // A call's status, by which the C functions tell what it answers: 0 where it is done, or has found what was asked for; 100 where there is
 // none; else the number of the refusal.
+#![tactic(auto)]
+
 ghost use Rattle.std.specs.Prelude.{◌≡◌};
 ghost use Rattle.statuses.specs.Statuses.{status_of, done_outcome};
 

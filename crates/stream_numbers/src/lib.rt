@@ -1,5 +1,7 @@
 // The record of an event stream as 16 numbers: slots, places, front, count and opened (two numbers each, the low one first), bookmarks, the
 // spans last and gone, and whether anything was popped. So it can stand in memory that is not Rattle's between two calls.
+#![tactic(auto)]
+
 ghost use Rattle.std.specs.Prelude.{◌≡◌};
 ghost use Rattle.stream_numbers.specs.Numbers.{truth_number, stream_of, numbers_of, put_count, put_last, put_opened, put_bookmarks, put_popped, forged};
 

@@ -1,4 +1,6 @@
 // Strings and regexps: where the one at a place ends.
+#![tactic(auto)]
+
 ghost use Rattle.std.specs.Prelude.{◌+◌, ◌<◌, ◌≡◌, length, get_or, drop};
 ghost use Rattle.patterns.specs.Pattern.{longest};
 ghost use Rattle.tokens.specs.Tokens.{letter, string, multi_line_string, regexp};

@@ -1,4 +1,6 @@
 // The lent room: token i stands as kind, start, end in slot i mod W, W being the number of slots.
+#![tactic(auto)]
+
 ghost use Rattle.std.specs.Prelude.{◌≡◌, ◌+◌, ◌*◌, ◌≤◌, ◌<◌, length};
 ghost use Rattle.token_room.specs.Room.{width, slots_in, slot_of, write_at, read_at, write, read};
 

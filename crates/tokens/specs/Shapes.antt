@@ -5,7 +5,7 @@ use Prim.Native.String.{String}
 use Rattle.std.proofs.Common.{sym, ap, ◌∙◌, subst, ⊎_elim, append-nil, append_assoc}
 use Rattle.std.proofs.Math.Path.{fun_ext}
 use Rattle.std.proofs.Math.Bool.{or_assoc, or_self}
-use Rattle.std.proofs.Math.Logic.{Iff·rfl}
+use mathlib.Core.Logic.Iff
 use Rattle.patterns.specs.Utf8.{Class}
 use Rattle.patterns.specs.Pattern.{Pat, byte, seq, alt, star, OneByte, Split, Many, done, again, Matches, plus, optional, row, longest}
 use Rattle.patterns.specs.Bools.{or_first, or_second, or_cases}
@@ -122,15 +122,15 @@ plus_same p =
 pub float_same : Same float rust_float
 float_same =
     follow_same (number dec) (rust_number dec) (seq (is ".") (plus (byte (or_underscore dec)))) (seq (is ".") (rust_number (or_underscore dec)))
-    (number_same dec) (split_means (λ u. Iff·rfl) (plus_same dec))
+    (number_same dec) (split_means (λ u. Iff.rfl) (plus_same dec))
 
 pub integer_same : Same integer rust_integer
 integer_same u =
     sum_means (prefixed "0x" hex u)
-    (sum_means (prefixed "0o" oct u) (follow_same (number dec) (rust_number dec) unit unit (number_same dec) (λ t. Iff·rfl) u))
+    (sum_means (prefixed "0o" oct u) (follow_same (number dec) (rust_number dec) unit unit (number_same dec) (λ t. Iff.rfl) u))
   where
     prefixed : (s : String) (p : Class) → Same (row (text s ∷ number p ∷ [])) (row (text s ∷ rust_number p ∷ []))
-    prefixed s p = follow_same (text s) (text s) (number p) (rust_number p) (λ t. Iff·rfl) (number_same p)
+    prefixed s p = follow_same (text s) (text s) (number p) (rust_number p) (λ t. Iff.rfl) (number_same p)
 
     unit : Pat
     unit = optional (alt (text "KB") (text "MB"))

@@ -1,4 +1,5 @@
 // The types that every layer above shares, and names for the kinds. What a token is stands in specs/.
+#![tactic(auto)]
 
 // Document 01's kinds from 68 on. Keywords and operators go by their numbers.
 pub const PATTERN_IDENT: u32 = 68;
@@ -32,15 +33,15 @@ pub const INVALID_UTF8: u32 = 81;
 pub const UNKNOWN: u32 = 82;
 
 // A place in a source, in bytes from its start.
-#[derive(Drop)]
+#[derive(Clone, Copy)]
 pub struct Offset(pub u32);
 
 // The number of a token, counted from the start of its source.
-#[derive(Drop)]
+#[derive(Clone, Copy)]
 pub struct TokenIndex(pub u32);
 
 // The scanner's three modes.
-#[derive(Drop)]
+#[derive(Clone, Copy)]
 pub enum Mode {
     Normal,
     HexPattern,
@@ -48,7 +49,7 @@ pub enum Mode {
 }
 
 // A token: its kind by document 01's numbers, where it starts, and where it ends, the end excluded.
-#[derive(Drop)]
+#[derive(Clone, Copy)]
 pub struct Token {
     pub kind: u32,
     pub start: Offset,
@@ -56,14 +57,14 @@ pub struct Token {
 }
 
 // The longest match of some rules: a kind and a length, both 0 where none matches.
-#[derive(Drop)]
+#[derive(Clone, Copy)]
 pub struct Hit {
     pub kind: u32,
     pub len: usize,
 }
 
 // What is taken at a place: a kind, a length, and the mode reached.
-#[derive(Drop)]
+#[derive(Clone, Copy)]
 pub struct Choice {
     pub kind: u32,
     pub len: usize,
@@ -71,7 +72,7 @@ pub struct Choice {
 }
 
 // What one scan finds: no token, the source being at its end; or a token, and the mode in which scanning goes on at its end.
-#[derive(Drop)]
+#[derive(Clone, Copy)]
 pub enum Scanned {
     End,
     Found(Token, Mode),

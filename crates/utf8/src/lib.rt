@@ -1,4 +1,6 @@
 // UTF-8: which character stands at a place of a source.
+#![tactic(auto)]
+
 ghost use Rattle.std.specs.Prelude.{◌<◌, ◌≡◌, drop};
 ghost use Rattle.patterns.specs.Utf8.{lead, longer, finish, decode};
 ghost use Rattle.utf8.specs.Rest.{size, Bounded};

@@ -1,5 +1,7 @@
 // The window: the next tokens of a source, looked ahead at and gone back to, in room that is lent. What it is, and how it is opened;
 // its calls stand in `reading`, `marks` and `modes`, and what they share in `tests` and `reaching`.
+#![tactic(auto)]
+
 ghost use Rattle.std.specs.Prelude.{◌≡◌};
 ghost use Rattle.window.specs.Window.{fresh_at, unopened, read_on, open_of, done_reply};
 
@@ -15,7 +17,7 @@ use tokens::{Mode, Offset, Token, TokenIndex};
 
 // Where the window stands. The first `live` bookmarks are in use, in order, the others 0; `bytes` and `slots` are the source's length
 // and the room's slots at opening; `reader` scans on behind the last of the `fetched` tokens; `current` is the next one to be taken.
-#[derive(Drop)]
+#[derive(Clone, Copy)]
 pub struct Window {
     pub bookmarks: [TokenIndex; 64],
     pub live: u32,
@@ -27,7 +29,7 @@ pub struct Window {
 }
 
 // What next and peek answer: a token; none, the source being at its end; or a refusal.
-#[derive(Drop)]
+#[derive(Clone, Copy)]
 pub enum TokenAnswer {
     Token(Token),
     None,
@@ -35,42 +37,42 @@ pub enum TokenAnswer {
 }
 
 // What has_more answers.
-#[derive(Drop)]
+#[derive(Clone, Copy)]
 pub enum MoreAnswer {
     More(bool),
     Refused(Refusal),
 }
 
 // What the calls answer that give an index: bookmark, and the current index.
-#[derive(Drop)]
+#[derive(Clone, Copy)]
 pub enum IndexAnswer {
     Index(TokenIndex),
     Refused(Refusal),
 }
 
 // What next and peek give: the answer, and the window after it. A refused call gives back the window as it was, here and below.
-#[derive(Drop)]
+#[derive(Clone, Copy)]
 pub struct TokenGiven {
     pub answer: TokenAnswer,
     pub window: Window,
 }
 
 // What has_more gives.
-#[derive(Drop)]
+#[derive(Clone, Copy)]
 pub struct MoreGiven {
     pub answer: MoreAnswer,
     pub window: Window,
 }
 
 // What bookmark and the current index give.
-#[derive(Drop)]
+#[derive(Clone, Copy)]
 pub struct IndexGiven {
     pub answer: IndexAnswer,
     pub window: Window,
 }
 
 // What the other calls give; opening too, which gives back, refused, a window that every later call refuses by 24.
-#[derive(Drop)]
+#[derive(Clone, Copy)]
 pub struct DoneGiven {
     pub answer: DoneAnswer,
     pub window: Window,

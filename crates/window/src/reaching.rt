@@ -15,7 +15,7 @@ use tokens::TokenIndex;
 
 // What a call comes to that wants tokens: whether it is refused, and where the window reads on: its reader, and the number of tokens
 // fetched.
-#[derive(Drop)]
+#[derive(Clone, Copy)]
 pub(crate) struct Reached {
     pub(crate) answer: DoneAnswer,
     pub(crate) reader: Reader,

@@ -2,7 +2,7 @@
 use lines::Asked;
 
 // The source is the bytes `from` up to, but without, `to`; the room is the first `numbers` of those to lend.
-#[derive(Drop)]
+#[derive(Clone, Copy)]
 pub(crate) struct Lent {
     pub(crate) from: usize,
     pub(crate) to: usize,

@@ -6,6 +6,8 @@
 // N bytes from A on of 65,536 spaces and the bytes FF 41 E3 80 80; `give N` lends N numbers, each 7; `open` opens a window; `view` says the
 // window, its mode by number (normal 0, pattern 1, jump 2), and the room. A capital letter sets a field of the window's record: Bytes, W,
 // Fetched, Current, Place, Live, and Mark I N, the place I of the bookmarks. `#` is a title.
+#![tactic(auto)]
+
 ghost use Rattle.std.specs.Prelude.{◌≤◌, length};
 
 mod calls;

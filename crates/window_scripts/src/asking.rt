@@ -13,14 +13,14 @@ use window::{
 };
 
 // What a call gives: the window after it, and its answer as numbers.
-#[derive(Drop)]
+#[derive(Clone, Copy)]
 pub struct ToldGiven {
     pub window: Window,
     pub told: Told,
 }
 
 // The four numbers of an answer.
-#[derive(Drop)]
+#[derive(Clone, Copy)]
 pub struct Told {
     pub tag: u32,
     pub first: u32,

@@ -1,4 +1,6 @@
 // Replays a script of calls through the window's public calls. That its answers are the record's is demand 3 of the code itself.
+#![tactic(auto)]
+
 ghost use Rattle.std.specs.Prelude.{◌+◌, ◌*◌, ◌≤◌, ◌≡◌, length};
 ghost use Rattle.std.proofs.lemmas.List.Edits.{sets};
 ghost use Rattle.scripts.specs.Running.{Noted, ran};

@@ -1,4 +1,6 @@
 // Words: how far letters, digits and underscores go on.
+#![tactic(auto)]
+
 mod keywords;
 
 ghost use Rattle.std.specs.Prelude.{◌+◌, ◌≡◌, drop};
