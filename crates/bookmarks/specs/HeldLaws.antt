@@ -12,7 +12,7 @@ use Rattle.std.proofs.Math.ListN.{length, drop, replicate}
 use Rattle.std.proofs.lemmas.List.{length-replicate, replicate-append-replicate}
 use Rattle.std.proofs.Math.Seq.{take-append_seam, drop-append_seam, drop-append-add}
 use Rattle.tokens.specs.declared.TokenIndex.{TokenIndex}
-use Rattle.patterns.specs.Bools.{and_first, and_second, by_test}
+use Rattle.patterns.proofs.Bools.{and_first, and_second, by_test}
 use Rattle.token_record.specs.Record.{bookmark_limit, member, without, least}
 use Rattle.bookmarks.specs.Bookmarks.{unused_place, padded, in_order, unused, held, insert, low_of, inserted, removed}
 

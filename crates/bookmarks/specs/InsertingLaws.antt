@@ -6,7 +6,7 @@ use mathlib.Core.List.{List, [], ◌∷◌, ◌++◌}
 use Rattle.std.proofs.Math.Nat.{sub-zero, suc-sub-suc}
 use Rattle.std.proofs.Math.ListN.{drop}
 use Rattle.tokens.specs.declared.TokenIndex.{TokenIndex}
-use Rattle.patterns.specs.Bools.{by_test}
+use Rattle.patterns.proofs.Bools.{by_test}
 use Rattle.token_record.specs.Record.{bookmark_limit}
 use Rattle.bookmarks.specs.Bookmarks.{insert, inserted}
 use Rattle.bookmarks.specs.Inserting.{place_of, shifted_up}

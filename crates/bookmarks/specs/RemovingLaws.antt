@@ -9,7 +9,7 @@ use mathlib.Core.List.{List, [], ◌∷◌, ◌++◌}
 use Rattle.std.proofs.Math.Dec.{leb-suc-suc}
 use borrow.Author.Tests.{lt-ltb, le-ltb}
 use Rattle.tokens.specs.declared.TokenIndex.{TokenIndex}
-use Rattle.patterns.specs.Bools.{by_test}
+use Rattle.patterns.proofs.Bools.{by_test}
 use Rattle.token_record.specs.Record.{bookmark_limit, member, without}
 use Rattle.bookmarks.specs.Bookmarks.{unused_place, removed}
 use Rattle.bookmarks.specs.Removing.{find_in, find_none, shifted_down}

@@ -3,7 +3,7 @@
 use Rattle.std.specs.Prelude.{ℕ, ◌≡◌, refl, List}
 use Rattle.refusals.specs.declared.DoneAnswer.{DoneAnswer}
 use Rattle.statuses.specs.Statuses.{status_of, done_outcome}
-use Rattle.statuses.specs.StatusLaws as statuses
+use Rattle.statuses.proofs.StatusLaws as statuses
 use Rattle.statuses.specs.OfEvents.{outcome, told}
 use Rattle.event_record.specs.Record.{Call, Answer, done, none, position, event, refused, Reply, reply}
 use Rattle.event_record.specs.declared.Span.{Span}
@@ -13,7 +13,7 @@ use Rattle.events.specs.declared.EventAnswer.{EventAnswer}
 use Rattle.events.specs.declared.EventAnswer.TheVariants as of_event
 use Rattle.events.specs.Stream.{done_told, event_told}
 use Rattle.live_events.specs.Live.{Lent, lent, live}
-use Rattle.live_events.specs.LiveLaws.{none_still, still as refused_still}
+use Rattle.live_events.proofs.LiveLaws.{none_still, still as refused_still}
 use Rattle.c_events.specs.Statuses.{position_in, event_in, told_position, told_event}
 
 -- Unless its status is 0, a call has changed nothing that is lent.

@@ -1,7 +1,8 @@
 -- The contracts leave no choice: the number answered, and every number that is lent, can be read back from what a contract fixes.
 -- Assumes nothing.
 use Rattle.std.specs.Prelude.{ℕ, zero, suc, ◌≡◌, refl, List}
-use Rattle.patterns.specs.Determined.{Once, once}
+use Rattle.patterns.specs.Determined.{Once}
+use Rattle.patterns.proofs.Determined.{once}
 use Rattle.refusals.specs.Calls.{reply}
 use Rattle.c_functions.specs.Answers.{lent, told}
 

@@ -2,7 +2,8 @@
 -- the number and all that is lent can be read back. Assumes nothing.
 use Rattle.std.specs.Prelude.{ℕ, refl, List}
 use Rattle.std.proofs.Common.{ap}
-use Rattle.patterns.specs.Determined.{Once, once}
+use Rattle.patterns.specs.Determined.{Once}
+use Rattle.patterns.proofs.Determined.{once}
 use Rattle.refusals.specs.Calls.{reply}
 use Rattle.event_record.specs.Record.{Answer, done, none, position, event, refused, Reply}
 use Rattle.event_scripts.specs.Script.{Lent, lent}

@@ -6,7 +6,8 @@ use Rattle.std.proofs.Math.Bool.{true, false}
 use Rattle.std.proofs.Math.Nat.{zero-add}
 use borrow.Author.Tests.{le-leb, leb-true, leb-false, lt-ltb, le-ltb}
 use Rattle.refusals.specs.Calls.{Reply, reply}
-use Rattle.scripts.specs.Tables.{below, no_entry}
+use Rattle.scripts.specs.Tables.{below}
+use Rattle.scripts.proofs.Tables.{no_entry}
 use Rattle.tokens.specs.NoneOf.{NoneOf}
 use Rattle.tokens.specs.declared.Mode.{Mode}
 use Rattle.tokens.specs.declared.Token.{Token}

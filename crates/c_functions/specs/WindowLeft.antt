@@ -2,7 +2,8 @@
 -- the number and all that is lent can be read back. Assumes nothing.
 use Rattle.std.specs.Prelude.{ℕ, refl, List}
 use Rattle.std.proofs.Common.{ap}
-use Rattle.patterns.specs.Determined.{Once, once}
+use Rattle.patterns.specs.Determined.{Once}
+use Rattle.patterns.proofs.Determined.{once}
 use Rattle.refusals.specs.Calls.{reply}
 use Rattle.token_record.specs.Record.{Answer, token, none, truth, index, done, refused, Reply}
 use Rattle.window_scripts.specs.Script.{Lent, lent}

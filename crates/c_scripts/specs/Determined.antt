@@ -1,7 +1,8 @@
 -- The promises leave no choice: two results of a script that satisfy its contract are equal, with every lent number. For the status and all
 -- that is lent stand in the promise. Assumes nothing.
 use Rattle.std.specs.Prelude.{ℕ, refl, List}
-use Rattle.patterns.specs.Determined.{Once, once}
+use Rattle.patterns.specs.Determined.{Once}
+use Rattle.patterns.proofs.Determined.{once}
 use Rattle.window.specs.Scripting.{Written, written}
 use Rattle.event_scripts.specs.Script.{Lent, lent}
 

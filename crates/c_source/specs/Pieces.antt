@@ -13,7 +13,8 @@ use Rattle.tokens.specs.declared.Token.{Token}
 use Rattle.tokens.specs.Scan.{token}
 use Rattle.reader.specs.declared.Reader.{Reader}
 use Rattle.reader.specs.Reading.{ahead}
-use Rattle.reader.specs.Following.{Sound, ahead_count, ahead_append, ahead_sound}
+use Rattle.reader.specs.Following.{Sound}
+use Rattle.reader.proofs.Following.{ahead_count, ahead_append, ahead_sound}
 use Rattle.token_room.specs.Room.{slots_in, nth, read, write_all}
 use Rattle.token_room.specs.ReadBack.{read_back}
 use Rattle.c_source.specs.From.{From, from, refused, from_at}

@@ -14,7 +14,7 @@ use Rattle.reader.specs.Reading.{ahead}
 use Rattle.token_room.specs.Room.{slots_in, nth}
 use Rattle.fetching.specs.declared.Fetched.{Fetched}
 use Rattle.fetching.specs.Fetching.{Answer, upto, refused, fetched, fetched_told, outcome}
-use Rattle.fetching.specs.FetchingLaws.{few_fit}
+use Rattle.fetching.proofs.FetchingLaws.{few_fit}
 use Rattle.c_source.specs.From.{From, from, from_at, listed_from, from_told}
 use Rattle.c_source.specs.FromLaws.{known_of, filled, fetched_filled}
 use Rattle.c_source.specs.SomeTokens.{Some, some_from, some, some_at}

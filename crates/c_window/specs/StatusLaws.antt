@@ -1,10 +1,10 @@
 -- Unless the status is 0, what is lent for the answer stays; and where it is no 100 either, so does all that is lent, as of the live calls.
 -- What the code makes of an answer is what the reply tells. Assumes nothing.
 use Rattle.std.specs.Prelude.{ℕ, ◌≡◌, refl, true, false, List, length, leb}
-use Rattle.patterns.specs.Bools.{by_test}
+use Rattle.patterns.proofs.Bools.{by_test}
 use Rattle.refusals.specs.declared.DoneAnswer.{DoneAnswer}
 use Rattle.statuses.specs.Statuses.{status_of, done_outcome}
-use Rattle.statuses.specs.StatusLaws as statuses
+use Rattle.statuses.proofs.StatusLaws as statuses
 use Rattle.statuses.specs.OfWindow.{outcome, told}
 use Rattle.reader.specs.Reading.{source_limit}
 use Rattle.token_record.specs.Record.{Call, Answer, token, none, truth, index, done, refused, Reply, reply}

@@ -11,7 +11,8 @@ use Rattle.patterns.specs.declared.Lead.{Lead}
 use Rattle.patterns.specs.declared.Lead.TheVariants.{Alone, More, Bad}
 use Rattle.patterns.specs.Utf8.{Class, lead, decode}
 use Rattle.patterns.specs.Pattern.{Pat, empty, byte, char, seq, star, plus, follow, row, nullable, if_in, deriv, longest}
-use Rattle.patterns.specs.Walk.{Came, move, done, over, Opens, char_in, char_broken}
+use Rattle.patterns.specs.Walk.{Came}
+use Rattle.patterns.proofs.Walk.{move, done, over, Opens, char_in, char_broken}
 use Rattle.utf8.specs.Runs.{beyond}
 use Rattle.tokens.specs.Tokens.{is, none_of}
 

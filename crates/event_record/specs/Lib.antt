@@ -1,5 +1,4 @@
 -- What an event stream must answer (Record), laws of it, computed examples, and which Begins no End closes (Unclosed).
 pub mod Record
-pub mod RecordLaws
 pub mod Unclosed
 pub mod Examples

@@ -5,7 +5,7 @@ use Rattle.std.specs.Prelude.{◌≡◌, List, [], ◌∷◌, ◌++◌, length, 
 use Rattle.std.proofs.Math.Path.{refl, ap}
 use Rattle.std.proofs.Common.{sym, ◌∙◌, add-zero, suc-add, arith, lt-ltb, le-ltb, ltb-true, ltb-false}
 use Rattle.std.proofs.Math.Nat.{sub-zero, zero-sub, suc-sub-suc}
-use Rattle.patterns.specs.Bools.{by_test}
+use Rattle.patterns.proofs.Bools.{by_test}
 use Rattle.rooms.specs.declared.Slot.{Slot}
 use Rattle.event_record.specs.declared.Event.{Event}
 use Rattle.event_room.specs.Room.{slots_in, slot_of, slot_in, write, read, listed, written}

@@ -8,9 +8,10 @@ use native.Mathlib.Omega.{arith}
 use borrow.Author.Tests.{lt-ltb, le-ltb, ltb-true, ltb-false}
 use Rattle.std.proofs.lemmas.List.{set-get_or}
 use Rattle.std.proofs.Math.Seq.{length-sets}
-use Rattle.patterns.specs.Bools.{by_test}
+use Rattle.patterns.proofs.Bools.{by_test}
 use Rattle.rooms.specs.declared.Slot.{Slot}
-use Rattle.rooms.specs.Slots.{Layout, slot_same, slot_other}
+use Rattle.rooms.specs.Slots.{Layout}
+use Rattle.rooms.proofs.Slots.{slot_same, slot_other}
 use Rattle.event_record.specs.declared.Event.{Event}
 use Rattle.event_record.specs.Record.{span, event_of}
 use Rattle.event_room.specs.Room.{width, numbers, from_numbers, slots_in, slot_in, write_at, read_at, write, read, written}

@@ -2,7 +2,8 @@
 -- Assumes nothing.
 use Rattle.std.specs.Prelude.{ℕ, ◌≤◌, ◌≡◌, refl, List, get_or}
 use Rattle.std.proofs.Math.ListN.{get_or-eq_default}
-use Rattle.patterns.specs.Determined.{Once, once}
+use Rattle.patterns.specs.Determined.{Once}
+use Rattle.patterns.proofs.Determined.{once}
 use Rattle.event_record.specs.Record.{Call, pop, Answer, Reply, reply}
 use Rattle.events.specs.declared.Stream.{Stream}
 use Rattle.events.specs.Stream.{State, state, step}

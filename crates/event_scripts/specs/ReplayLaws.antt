@@ -5,10 +5,13 @@ use Rattle.std.proofs.Math.Path.{ap}
 use Rattle.std.proofs.Common.{◌∙◌, lt-ltb, le-ltb}
 use mathlib.Core.List.{List}
 use Rattle.std.proofs.lemmas.List.Edits.{sets}
-use Rattle.patterns.specs.Determined.{Once, once}
+use Rattle.patterns.specs.Determined.{Once}
+use Rattle.patterns.proofs.Determined.{once}
 use Rattle.refusals.specs.declared.DoneAnswer.{DoneAnswer}
 use Rattle.scripts.specs.Scripts.{calls_of}
-use Rattle.scripts.specs.Running.{Noted, ran, ran_all}
+use Rattle.scripts.specs.Running.{Noted}
+use Rattle.scripts.specs.Running.{ran}
+use Rattle.scripts.proofs.Running.{ran_all}
 use Rattle.event_record.specs.Record.{Call, done, refused, reply}
 use Rattle.event_room.specs.Room.{slots_in}
 use Rattle.events.specs.declared.Stream.{Stream}
@@ -16,7 +19,8 @@ use Rattle.events.specs.Stream.{State, state, fresh, step, done_told}
 use Rattle.events.specs.Determined.{done_read, done_same}
 use Rattle.event_scripts.specs.declared.asking.ToldGiven.{ToldGiven}
 use Rattle.event_scripts.specs.Asking.{told_numbers, told_reply, told_of}
-use Rattle.event_view.specs.Viewed.{start, viewed}
+use Rattle.event_view.specs.Viewed.{start}
+use Rattle.event_view.proofs.Viewed.{viewed}
 use Rattle.event_scripts.specs.Script.{form, lent, replayed}
 
 -- A call's reply, and the numbers of its answer written.

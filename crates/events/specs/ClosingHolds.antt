@@ -5,7 +5,7 @@ use Rattle.std.proofs.Math.Path.{refl}
 use Rattle.std.proofs.Common.{sym, ◌∙◌, zero-add, length-take-le, get_or-take, take-take}
 use native.Mathlib.Omega.{arith}
 use Rattle.std.proofs.Math.ListN.{length, set, length-set, length-append}
-use Rattle.rooms.specs.Stores.{sets_take}
+use Rattle.rooms.proofs.Stores.{sets_take}
 use Rattle.event_record.specs.declared.Event.{Event}
 use Rattle.event_record.specs.Record.{done, reply, event_of, span, begin_tag, end_tag}
 use Rattle.event_record.specs.Record.{holding, inner, inner_event, outer, ended, dropped}

@@ -2,7 +2,8 @@
 -- answers can be read back from document 01's values, by which the contracts speak of them. Assumes nothing.
 use Rattle.std.specs.Prelude.{ℕ, ◌≡◌, refl, List}
 use Rattle.std.proofs.Common.{ap}
-use Rattle.patterns.specs.Determined.{Once, once}
+use Rattle.patterns.specs.Determined.{Once}
+use Rattle.patterns.proofs.Determined.{once}
 use Rattle.refusals.specs.declared.DoneAnswer.{DoneAnswer}
 use Rattle.refusals.specs.declared.DoneAnswer.TheVariants as of_done
 use Rattle.refusals.specs.RefusalLaws.{read_refusal, read_back}

@@ -5,7 +5,7 @@ use Rattle.std.proofs.Common.{sym, arith, length-append}
 use Rattle.std.proofs.Math.Seq.{length-take-le}
 use Rattle.std.proofs.lemmas.List.Edits.{sets}
 use Rattle.rooms.specs.declared.Slot.{Slot}
-use Rattle.rooms.specs.Stores.{sets_take}
+use Rattle.rooms.proofs.Stores.{sets_take}
 use Rattle.event_record.specs.declared.Event.{Event}
 use Rattle.event_record.specs.Record.{Answer, reply, Record}
 use Rattle.event_room.specs.Room.{slots_in, slot_of, write, listed, written}

@@ -6,7 +6,7 @@ use Rattle.std.proofs.Common.{arith, length-take-le}
 use Rattle.std.proofs.Math.ListN.{length, length-append}
 use Rattle.std.proofs.lemmas.List.Edits.{sets}
 use borrow.Author.Tests.{lt-ltb, le-ltb, le-leb, lt-leb}
-use Rattle.rooms.specs.Stores.{sets_append, sets_take}
+use Rattle.rooms.proofs.Stores.{sets_append, sets_take}
 use Rattle.event_record.specs.Record.{begin, done, refused, reply, begun, spare}
 use Rattle.event_room.specs.Room.{write}
 use Rattle.events.specs.Stream.{State, view, laid, answered}

@@ -5,7 +5,7 @@ use Rattle.std.proofs.Math.Path.{refl, ap}
 use Rattle.std.proofs.Common.{sym, ◌∙◌, arith}
 use mathlib.Core.List.{List, ◌∷◌}
 use Rattle.rooms.specs.declared.Slot.{Slot}
-use Rattle.rooms.specs.Stores.{sets_take}
+use Rattle.rooms.proofs.Stores.{sets_take}
 use Rattle.event_record.specs.declared.Event.{Event}
 use Rattle.event_record.specs.Record.{pop, none, event, refused, reply, last_token, holding, passed, first_popped}
 use Rattle.event_room.specs.Room.{slots_in, slot_in, read, listed}

@@ -4,7 +4,7 @@ use Rattle.std.specs.Prelude.{ℕ, ◌+◌, ◌-◌, ◌≤◌, ◌<◌, ◌≡�
 use Rattle.std.proofs.Math.Path.{refl}
 use Rattle.std.proofs.Common.{sym, arith}
 use borrow.Author.Tests.{lt-ltb, le-ltb}
-use Rattle.rooms.specs.Stores.{sets_take}
+use Rattle.rooms.proofs.Stores.{sets_take}
 use Rattle.event_record.specs.declared.Span.{Span}
 use Rattle.event_record.specs.declared.Event.{Event}
 use Rattle.event_record.specs.Record.{push_token, push_error, done, refused, Reply, reply, event_of, token_tag, error_tag, pushed, lasting, spare, no_span}

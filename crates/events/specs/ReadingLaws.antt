@@ -8,7 +8,7 @@ use Rattle.rooms.specs.declared.Slot.{Slot}
 use Rattle.event_record.specs.declared.Event.{Event}
 use Rattle.event_record.specs.declared.Span.{Span}
 use Rattle.event_record.specs.Record.{token_tag, last_token}
-use Rattle.event_record.specs.RecordLaws.{last_token_append}
+use Rattle.event_record.proofs.RecordLaws.{last_token_append}
 use Rattle.event_room.specs.Room.{slots_in, slot_of, slot_in, read, listed}
 use Rattle.event_room.specs.RingLaws.{listed_more}
 

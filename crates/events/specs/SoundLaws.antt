@@ -5,8 +5,8 @@ use Rattle.std.proofs.Common.{sym, ◌∙◌, arith}
 use Rattle.std.proofs.Math.Bool.{true}
 use Rattle.std.proofs.Math.Dec.{ltb}
 use borrow.Author.Tests.{ltb-true, lt-ltb, leb-true, le-leb, eqb-true, eqb-false, eq-eqb, ne_eqb}
-use Rattle.patterns.specs.Bools.{and_both, and_first, and_second, by_test}
-use Rattle.patterns.specs.Lists.{each_right}
+use Rattle.patterns.proofs.Bools.{and_both, and_first, and_second, by_test}
+use Rattle.patterns.proofs.Lists.{each_right}
 use Rattle.event_record.specs.Record.{Call, refused, Reply, reply, begin_tag}
 use Rattle.event_room.specs.Room.{slots_in}
 use Rattle.events.specs.Stream.{State, inner_place, begins, tests, sound, answered, step}

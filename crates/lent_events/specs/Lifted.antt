@@ -2,6 +2,7 @@
 -- of tokens, result and last values; the covered call gives all but the record's last value, which is the record that was stored.
 -- Assumes nothing.
 use Rattle.std.specs.Prelude.{◌≡◌, refl, List, [], ◌∷◌, ◌++◌}
+
 use Rattle.std.proofs.Common.{sym, subst, ap, ◌∙◌}
 use seplogic.Ra.Ura.{Ura}
 use mir.Syntax.{Name, named}
@@ -25,14 +26,15 @@ use denote.Struct.Laws as LL
 use denote.Triple.Clauses.{Ended, Clauses, closing}
 use denote.Triple.End.{all, Fins, Outs, outs, lasts_of}
 use denote.Triple.Spec.{Meets}
-use Rattle.walks.specs.Contracts.{Follows, spelled}
+use Rattle.walks.specs.Contracts.{Follows}
+use Rattle.walks.proofs.Contracts.{spelled}
 use Rattle.events.specs.declared.Stream.{Stream}
 use Rattle.events.specs.contracts.Stream as T
 use Rattle.events.proofs.Stream.TheLaws as T'
 use Rattle.lent_events.specs.Answers.{Answers, stream_val}
 use Rattle.lent_events.specs.Lent.{Lent, lent_out, ref_val, reference, token, closed}
 use Rattle.lent_events.specs.Params.{Kind, Passed, value, Arguments, passed_values}
-use Rattle.lent_events.specs.Thin.{shape, walk}
+use Rattle.lent_events.specs.Thin.{shape}
 
 -- A parameter beside the record: its type in a thin call's signature, how the code hands it on, its machine value, and what is passed then.
 pub record Param : Type 2 where
@@ -52,13 +54,9 @@ abbrev pub kinds : List Param → List Kind
 kinds [] = []
 kinds (p ∷ ps) = p.kind ∷ kinds ps
 
-abbrev spells : (ps : List Param) (κs : Lfts 3) → Spells (types_at (slots ps) κs)
+abbrev pub spells : (ps : List Param) (κs : Lfts 3) → Spells (types_at (slots ps) κs)
 spells [] κs = tt
 spells (p ∷ ps) κs = (p.spell κs, spells ps κs)
-
-tells_all : (ps : List Param) (κs : Lfts 3) → Tellss (types_at (slots ps) κs) (Ises (types_at (slots ps) κs)) (spells ps κs)
-tells_all [] κs = tt
-tells_all (p ∷ ps) κs = (p.tells κs, tells_all ps κs)
 
 -- the machine values, one list for each; their relations; and what is passed
 module _ (ps : List Param) (κs : Lfts 3) (a : Denots (types_at (slots ps) κs)) where
@@ -68,98 +66,6 @@ module _ (ps : List Param) (κs : Lfts 3) (a : Denots (types_at (slots ps) κs))
   abbrev pub Known : Type 0
   Known = Are (types_at (slots ps) κs) (Ises (types_at (slots ps) κs)) a spelt
 
-module _ {M : Type 1} {𝓤 : Ura M} (𝓛 : Logic 𝓤) where
-  abbrev pub arguments : (ps : List Param) (κs : Lfts 3) (a : Denots (types_at (slots ps) κs)) → Known ps κs a → Arguments (kinds ps)
-  arguments [] κs a is = tt
-  arguments (p ∷ ps) κs a is = (p.argument 𝓛 κs a.0 is.0, arguments ps κs a.1 is.1)
-
-  same_all : (ps : List Param) (κs : Lfts 3) (a : Denots (types_at (slots ps) κs)) (is : Known ps κs a) → flat (types_at (slots ps) κs) (spelt ps κs a) ≡ passed_values (kinds ps) (arguments ps κs a is)
-  same_all [] κs a is = refl
-  same_all (p ∷ ps) κs a is = ap (λ (vs : List Val). vs ++ flat (types_at (slots ps) κs) (spelt ps κs a.1)) (p.same 𝓛 κs a.0 is.0) ∙ ap (λ (vs : List Val). value p.kind (p.argument 𝓛 κs a.0 is.0) ∷ vs) (same_all ps κs a.1 is.1)
-
 -- What a thin call promises: of the record and the others on entry, the answer, the record on exit and the last values of the others.
 abbrev pub Promise : Answers → List Param → Type 1
 Promise F ps = (κs : Lfts 3) → Stream → Denots (types_at (slots ps) κs) → F.answer.Denot → Stream → Outs κs (slots ps) (all yes (slots ps)) → Type 0
-
-module _ (F : Answers) (ps : List Param) where
-  -- its signature
-  abbrev pub thin_ended : Ended
-  thin_ended = record { signature = record { lifetimes = 3; outlives = []; params = RefMutOf (0 ∷ []) tt (plain (λ _. T.the_row)) (λ _. tt) ∷ slots ps; result = plain (λ _. F.answer) }; kept = (yes, all yes (slots ps)) }
-
-  -- that its contract follows from the promise
-  abbrev pub Promised : {M : Type 1} (𝓤 : Ura M) → Promise F ps → Clauses 𝓤 thin_ended → Type 1
-  Promised 𝓤 Says = Follows 𝓤 thin_ended (λ κs a e z. Says κs a.0.now a.1 e z.0.now z.1)
-
-  module _ {M : Type 1} {𝓤 : Ura M} (𝓛 : Logic 𝓤) (n : Name) (Says : Promise F ps) (C : Calls 𝓤 𝓛.H) (Λ : Loops 𝓤 𝓛.H) (fm : FmC 𝓤 𝓛.H 𝓛.laws C) (κs : Lfts 3) (qs : Shares 3) (h : Stream) (a : Denots (types_at (slots ps) κs)) (is : Known ps κs a) where
-    -- the others' tokens, what they own, their last values, and what is promised of these
-    open 𝓛 use {H}
-
-    abbrev tokens : SProp 𝓤
-    tokens = toks 𝓛 2 κs.1 qs.1
-
-    abbrev owned_by_others : Fml
-    owned_by_others = owns (types_at (slots ps) κs) a (spelt ps κs a)
-
-    abbrev Lasts : Type 0
-    Lasts = Fins κs (slots ps) (all yes (slots ps)) a
-
-    abbrev lasts : Lasts → Fml
-    lasts = lasts_of κs (slots ps) (all yes (slots ps)) a
-
-    abbrev Said : F.answer.Denot → Stream → Lasts → Type 0
-    Said e t ws = Says κs h a e t (outs κs (slots ps) (all yes (slots ps)) a ws)
-
-    abbrev passed : Arguments (kinds ps)
-    passed = arguments 𝓛 ps κs a is
-
-    -- what the covered call ensures of its result; that it meets this, the record being passed by value
-    abbrev core_says : F.given.Denot → SProp 𝓤
-    core_says x = ex 𝓤 (λ (ws : Unit {0} × Lasts). sep 𝓤 (sem 𝓛 (fsep ftrue (lasts ws.1))) (fact 𝓤 (Said (F.answer_of x) (F.stream_of x) ws.1)))
-
-    abbrev pub Covered : Type 1
-    Covered =
-        ent 𝓤 (sep 𝓤 (sep 𝓤 tokens (sem 𝓛 (fsep ((T.the_row).own_val h (stream_val h ∷ [])) owned_by_others))) (emp 𝓤))
-        (C n (stream_val h ∷ passed_values (kinds ps) passed) (λ w. H.⇛ (ex 𝓤 (λ (x : F.given.Denot). sep 𝓤 (sep 𝓤 tokens (sem 𝓛 (F.given.own_val x (w ∷ [])))) (core_says x)))))
-
-    module _ (r : Lent) (c : Clauses 𝓤 thin_ended) (g : (c κs (lent_out r h, a)).ghost) where
-      -- what the thin call leaves: the last values with its promise; tokens, the answer and that
-      abbrev left_with : F.answer.Denot → Stream × Lasts → SProp 𝓤
-      left_with e ws = sep 𝓤 (sem 𝓛 (fsep (fres r.name ((T.the_row).coded.code ws.0)) (lasts ws.1))) ((c κs (lent_out r h, a)).ensures g e (lent_out r ws.0, outs κs (slots ps) (all yes (slots ps)) a ws.1))
-
-      abbrev answered_with : Val → F.answer.Denot → SProp 𝓤
-      answered_with v e = sep 𝓤 (sep 𝓤 (sep 𝓤 (sem 𝓛 (token r)) tokens) (sem 𝓛 (F.answer.own_val e (v ∷ [])))) (ex 𝓤 (left_with e))
-
-      abbrev thin_post : Val → SProp 𝓤
-      thin_post v = H.⇛ (ex 𝓤 (answered_with v))
-
-      -- at exit the lender reads the record that was stored
-      exits : Promised 𝓤 Says c → (x : F.given.Denot) → Is F.answer (F.answer_of x) (F.val (F.answer_of x) ∷ []) → ent 𝓤 (⋆ 𝓛 (closed r (F.stream_of x) (raw tokens ∷ raw (core_says x) ∷ []))) (thin_post (F.val (F.answer_of x)))
-      exits promised x i =
-          qed 𝓛 (closed r (F.stream_of x) (raw tokens ∷ raw (core_says x) ∷ [])) ∵
-          updating ! $ at_once ! $ move ! (4 ∷ []) $ use1 𝓛 (some (λ (ws : Unit {0} × Lasts). ‵ (fsep ftrue (lasts ws.1)) ⊛ raw (fact 𝓤 (Said (F.answer_of x) (F.stream_of x) ws.1)))) (id⊢ 𝓤 _) $ pick ! (λ ws. split ! $ fsplit ! $ drop ! $ move ! (1 ∷ []) $ heard ! _ (λ said.
-          -- [the last values; the record's last value; its borrow; its token; the others' tokens]
-          show ! (answered_with (F.val (F.answer_of x))) (F.answer_of x) $ owned ! F.answer (Is F.answer) (F.makes 𝓛) (F.answer_of x) _ i $ move ! (4 ∷ 5 ∷ []) $ join ! $ join ! $ frame ! $
-          show ! (left_with (F.answer_of x)) (F.stream_of x, ws.1) $ move ! (1 ∷ []) $ use1 𝓛 (‵ (fres r.name ((T.the_row).coded.code (F.stream_of x)))) (𝓛.names.obs_res r.name ((T.the_row).coded.code (F.stream_of x))) $ fjoin ! $ frame ! $ drop ! $
-          by ! (promised κs (lent_out r h, a) g (F.answer_of x) _ said)))
-
-      lifted : Promised 𝓤 Says c → Covered → ent 𝓤 (sep 𝓤 (sep 𝓤 (sep 𝓤 (sem 𝓛 (token r)) tokens) (sem 𝓛 (fsep (reference r h) owned_by_others))) ((c κs (lent_out r h, a)).requires g)) (WpFn 𝓤 H C Λ (shape F (kinds ps) n) (ref_val r ∷ passed_values (kinds ps) passed) thin_post)
-      lifted promised known =
-          via 𝓤 _
-          (qed 𝓛 (((‵ (token r) ⊛ raw tokens) ⊛ ‵ (fsep (reference r h) owned_by_others)) ∷ raw ((c κs (lent_out r h, a)).requires g) ∷ []) ∵ split ! $ split ! $ move ! (2 ∷ []) $ fsplit ! $ move ! (0 ∷ 2 ∷ 3 ∷ 1 ∷ []) $ frame ! $ frame ! $ keep ! (0 ∷ 1 ∷ []) $ done !)
-          (walk 𝓛 F n (kinds ps) passed r h (sep 𝓤 tokens (sem 𝓛 owned_by_others)) tokens core_says thin_post C Λ fm
-          (λ i. via 𝓤 _ (qed 𝓛 (raw tokens ∷ ‵ owned_by_others ∷ []) ∵ move ! (1 ∷ []) $ owned ! T.the_row (Is T.the_row) (LL.makes T.the_type T'.the_plain 𝓛) h (stream_val h ∷ []) i $ fjoin ! $ move ! (1 ∷ 0 ∷ []) $ join ! $ nothing ! $ move ! (1 ∷ 0 ∷ []) $ done !) known)
-          (exits promised))
-
-  -- The thin call meets its contract where that follows from the promise, and the covered call meets the promise of the record by value.
-  pub meets : {M : Type 1} {𝓤 : Ura M} (𝓛 : Logic 𝓤) (n : Name) (Says : Promise F ps) (𝓣 : Tables 𝓤 𝓛.H) (c : Clauses 𝓤 thin_ended) → Promised 𝓤 Says c
-      → ((κs : Lfts 3) (qs : Shares 3) (h : Stream) (a : Denots (types_at (slots ps) κs)) (is : Known ps κs a) → Covered 𝓛 n Says 𝓣.C 𝓣.Λ (fm_of 𝓤 𝓛.H 𝓛.laws 𝓣) κs qs h a is)
-      → Meets 𝓛 thin_ended.signature (WpFn 𝓤 𝓛.H 𝓣.C 𝓣.Λ (shape F (kinds ps) n)) (closing 𝓛 thin_ended c)
-  meets {𝓤 = 𝓤} 𝓛 n Says 𝓣 c promised known =
-      let run = WpFn 𝓤 𝓛.H 𝓣.C 𝓣.Λ (shape F (kinds ps) n) in
-      spelled 𝓛 thin_ended.signature (closing 𝓛 thin_ended c) run (λ κs. (mut_vals, spells ps κs)) (λ κs. (mut_Tells (named 0) κs.0 T.the_row, tells_all ps κs))
-      (λ κs qs bounds a g are.
-      let r : Lent = record { lft = κs.0; share = qs.0; block = a.0.ptr.0; offset = a.0.ptr.1; name = a.0.name } in
-      let post = thin_post 𝓛 n Says 𝓣.C 𝓣.Λ (fm_of 𝓤 𝓛.H 𝓛.laws 𝓣) κs qs a.0.now a.1 are.1 r c g in
-      subst (λ (vs : List Val). ent 𝓤 (sep 𝓤 (sep 𝓤 (sep 𝓤 (sem 𝓛 (token r)) (toks 𝓛 2 κs.1 qs.1)) (sem 𝓛 (fsep (reference r a.0.now) (owns (types_at (slots ps) κs) a.1 (spelt ps κs a.1))))) ((c κs a).requires g)) (run (ref_val r ∷ vs) post))
-      (sym (same_all 𝓛 ps κs a.1 are.1))
-      (lifted 𝓛 n Says 𝓣.C 𝓣.Λ (fm_of 𝓤 𝓛.H 𝓛.laws 𝓣) κs qs a.0.now a.1 are.1 r c g promised (known κs qs a.0.now a.1 are.1)))

@@ -1,6 +1,7 @@
 -- The walk of a thin call: the lent record is copied out, the covered call runs on the copy and on the other parameters, the record that it
 -- gave is stored, whatever it answered. So one walk serves all nine calls, whatever the other parameters are. Assumes nothing.
 use Rattle.std.specs.Prelude.{◌≡◌, refl, ℕ, suc, List, [], ◌∷◌, ◌++◌, get_or}
+
 use seplogic.Ra.Ura.{Ura}
 use mir.Syntax.{Name, Ty, Fn, local, value_local, place, field, deref, copy, rv_opd, assign, call, seq, return}
 use mir.Val.{Val}
@@ -12,22 +13,22 @@ use types.Kit.{‵, raw, ◌⊛◌, some, later, ⋆, ◌$◌, ◌∵◌, !, qed
 use types.Run.{look, init, stop, load, and_then, returns, enter, alloc1, alloc0, params1, pass1, free0}
 use denote.Laws.{Is}
 use denote.Triple.Call.{calls_from}
-use Rattle.walks.specs.Steps.{at_local, gone}
+use Rattle.walks.proofs.Steps.{at_local, gone}
 use Rattle.events.specs.declared.Stream.{Stream}
 use Rattle.events.specs.contracts.Stream as T
 use Rattle.events.proofs.Stream.TheLaws as T'
 use Rattle.lent_events.specs.Answers.{Answers, stream_val, given_ty}
-use Rattle.lent_events.specs.Lent.{Lent, ref_ty, ref_val, reference, token, closed, copied, stored}
-use Rattle.lent_events.specs.Params.{Kind, Arguments, param_types, fresh_types, param_values, fresh_values, passed_values, locals, past, lends, operands, Blocks, env, At, at_suc, at_here, at_past, alloc_all, pass_all, free_all, lend_all, operands_all}
+use Rattle.lent_events.specs.Lent.{Lent, ref_ty, ref_val, reference, token, closed}
+use Rattle.lent_events.specs.Params.{Kind, Arguments, param_types, fresh_types, param_values, fresh_values, passed_values, locals, past, lends, operands, Blocks, env, At}
 
 -- the locals behind the parameters: the copy of the record, what the covered call gives, and those of the slices that are lent again
-abbrev before : List Kind → ℕ
+abbrev pub before : List Kind → ℕ
 before ks = suc (suc (past (param_types ks) 0))
 
-abbrev given : List Kind → ℕ
+abbrev pub given : List Kind → ℕ
 given ks = suc (suc (past (param_types ks) 1))
 
-abbrev fresh : List Kind → ℕ
+abbrev pub fresh : List Kind → ℕ
 fresh ks = suc (suc (past (param_types ks) 2))
 
 -- The code of a thin call in MIR, over the family of its answer, the kinds of its other parameters and the callee's name.
@@ -42,62 +43,3 @@ shape F ks n = record {
       (seq (assign (place 1 (deref T'.mir ∷ [])) (rv_opd (copy (place (given ks) (field 1 ∷ [])))))
       (seq (assign (place 0 []) (rv_opd (copy (place (given ks) (field 0 ∷ []))))) return))));
 }
-
--- Its environment, and where each local stands there.
-module _ (F : Answers) (ks : List Kind) (none : Ty × ℕ) (l₀ l₁ : ℕ) (bs : Blocks (param_types ks)) (lb lg : ℕ) (ts : Blocks (fresh_types ks)) where
-  abbrev fresh_env : List (Ty × ℕ)
-  fresh_env = env (fresh_types ks) ts ++ []
-
-  abbrev behind : List (Ty × ℕ)
-  behind = (T'.mir, lb) ∷ (given_ty F, lg) ∷ fresh_env
-
-  abbrev from_params : List (Ty × ℕ)
-  from_params = env (param_types ks) bs ++ behind
-
-  abbrev environment : List (Ty × ℕ)
-  environment = (F.ty, l₀) ∷ (ref_ty, l₁) ∷ from_params
-
-  two_on : (i : ℕ) (D : List (Ty × ℕ)) → At from_params none i D → At environment none (suc (suc i)) D
-  two_on i D a = at_suc ((ref_ty, l₁) ∷ from_params) none (F.ty, l₀) (suc i) D (at_suc from_params none (ref_ty, l₁) i D a)
-
-  past_params : (i : ℕ) (D : List (Ty × ℕ)) → At behind none i D → At environment none (suc (suc (past (param_types ks) i))) D
-  past_params i D a = two_on (past (param_types ks) i) D (at_past (param_types ks) bs behind none i D a)
-
-  at_before : get_or environment (before ks) none ≡ (T'.mir, lb)
-  at_before = (past_params 0 ((T'.mir, lb) ∷ []) (refl, tt)).0
-
-  at_given : get_or environment (given ks) none ≡ (given_ty F, lg)
-  at_given = (past_params 1 ((given_ty F, lg) ∷ []) (refl, tt)).0
-
-  at_params : At environment none 2 (env (param_types ks) bs)
-  at_params = two_on 0 (env (param_types ks) bs) (at_here (env (param_types ks) bs) behind none)
-
-  at_fresh : At environment none (fresh ks) (env (fresh_types ks) ts)
-  at_fresh = past_params 2 (env (fresh_types ks) ts) (at_suc ((given_ty F, lg) ∷ fresh_env) none (T'.mir, lb) 1 (env (fresh_types ks) ts) (at_suc fresh_env none (given_ty F, lg) 0 (env (fresh_types ks) ts) (at_here (env (fresh_types ks) ts) [] none)))
-
--- The walk. `Has` is what the call has of its other parameters, which the callee takes whole. The callee gives back their tokens and its
--- result x, and says `said x`; what that comes to at exit is left to `exits`.
-module _ {M : Type 1} {𝓤 : Ura M} (𝓛 : Logic 𝓤) (F : Answers) (n : Name) (ks : List Kind) (xs : Arguments ks) (r : Lent) (h : Stream) (Has tokens : SProp 𝓤) (said : F.given.Denot → SProp 𝓤) (Left : Val → SProp 𝓤) (C : Calls 𝓤 𝓛.H) (Λ : Loops 𝓤 𝓛.H) (fm : FmC 𝓤 𝓛.H 𝓛.laws C) where
-  open 𝓛 use {H}
-
-  pub walk : (Is T.the_row h (stream_val h ∷ []) → ent 𝓤 Has (C n (stream_val h ∷ passed_values ks xs) (λ w. H.⇛ (ex 𝓤 (λ (x : F.given.Denot). sep 𝓤 (sep 𝓤 tokens (sem 𝓛 (F.given.own_val x (w ∷ [])))) (said x))))))
-      → ((x : F.given.Denot) → Is F.answer (F.answer_of x) (F.val (F.answer_of x) ∷ []) → ent 𝓤 (⋆ 𝓛 (closed r (F.stream_of x) (raw tokens ∷ raw (said x) ∷ []))) (Left (F.val (F.answer_of x))))
-      → ent 𝓤 (⋆ 𝓛 (‵ (reference r h) ∷ ‵ (token r) ∷ raw Has ∷ [])) (WpFn 𝓤 H C Λ (shape F ks n) (ref_val r ∷ passed_values ks xs) Left)
-  walk met exits =
-      qed 𝓛 (‵ (reference r h) ∷ ‵ (token r) ∷ raw Has ∷ []) ∵ enter ! C Λ (shape F ks n) (ref_val r ∷ passed_values ks xs) _ $
-      alloc1 ! (λ l₀. alloc1 ! (λ l₁. alloc_all ! (param_types ks) (λ bs. alloc1 ! (λ lb. alloc1 ! (λ lg. alloc_all ! (fresh_types ks) (λ ts.
-      let none = no_local 𝓤 H in
-      alloc0 ! $ params1 ! $ pass1 ! (init ! 8 refl (tt, tt)) $ move ! (6 ∷ []) $ pass_all ! (behind F ks none l₀ l₁ bs lb lg ts) ks xs bs $
-      -- [the parameters; the fresh locals; …; given; …; before; …; …; _1; …; _0; …; the reference; its token; what is had]
-      move ! (12 ∷ 13 ∷ 8 ∷ 5 ∷ []) $ copied ! r h (before ks) (at_before F ks none l₀ l₁ bs lb lg ts) (λ is_stream.
-      -- [the record: 5 entries; _1; before; the parameters; the fresh locals; …; given; …; …; …; …; _0; …; what is had]
-      move ! (7 ∷ 8 ∷ []) $ lend_all ! ks xs bs ts 2 (fresh ks) (at_params F ks none l₀ l₁ bs lb lg ts) (at_fresh F ks none l₀ l₁ bs lb lg ts) $ move ! (17 ∷ 8 ∷ 0 ∷ 1 ∷ []) $
-      -- [what is had; before; the parameters; the fresh locals; the record: 5; _1; …; given; …; …; …; …; _0; …]
-      calls_from ! fm (raw Has) (stream_val h ∷ passed_values ks xs) _ (met is_stream)
-      (and_then ! (load ! (at_local ! (at_before F ks none l₀ l₁ bs lb lg ts) (stop !)) (look ! 1 refl)) (operands_all ks xs bs ts 2 (fresh ks) (at_params F ks none l₀ l₁ bs lb lg ts) (at_fresh F ks none l₀ l₁ bs lb lg ts))) (λ w.
-      use1 𝓛 (later (some (λ (x : F.given.Denot). (raw tokens ⊛ ‵ (F.given.own_val x (w ∷ []))) ⊛ raw (said x)))) (id⊢ 𝓤 _) $ await ! tt $ pick ! (λ x. split ! $ split ! $
-      -- [the tokens; the result; what is said; before; the parameters; the fresh locals; the record: 5; _1; …; given; …; …; …; …; _0; …]
-      move ! (1 ∷ 6 ∷ 7 ∷ 8 ∷ 9 ∷ 10 ∷ 18 ∷ 11 ∷ 13 ∷ []) $ stored ! F r h x w (given ks) (at_given F ks none l₀ l₁ bs lb lg ts) (λ is.
-      -- [the record's borrow: 3; _0; _1; given; the tokens; what is said; before; the parameters; the fresh locals; …; …; …; …; …; …]
-      returns ! (look ! 3 refl) $ gone ! 3 refl 15 refl $ gone ! 3 refl 13 refl $ move ! (7 ∷ 12 ∷ []) $ free_all ! (param_types ks) bs (param_values ks xs) $
-      gone ! 6 refl 9 refl $ gone ! 3 refl 7 refl $ move ! (5 ∷ 6 ∷ []) $ free_all ! (fresh_types ks) ts (fresh_values ks xs) $ free0 ! $ by ! (exits x (F.holds x w is).0)))))))))))

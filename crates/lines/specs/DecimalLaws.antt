@@ -6,8 +6,9 @@ use Rattle.std.proofs.lemmas.Bool.{false≢true}
 use Rattle.std.proofs.Math.Numerals.{add-one}
 use Rattle.std.proofs.Math.Decide.{dec_lt}
 use Rattle.std.proofs.Math.Seq.{drop-cons}
-use Rattle.patterns.specs.Bools.{and_first, and_second}
-use Rattle.patterns.specs.Walk.{span, span_yes, span_no, span_over, byte_within}
+use Rattle.patterns.proofs.Bools.{and_first, and_second}
+use Rattle.patterns.specs.Walk.{span}
+use Rattle.patterns.proofs.Walk.{span_yes, span_no, span_over, byte_within}
 use Rattle.tokens.specs.Tokens.{dec}
 use Rattle.lines.specs.declared.decimals.Number.{Number}
 use Rattle.lines.specs.Decimals.{space, grown, number, spelled, starts, behind}

@@ -3,7 +3,7 @@
 use Rattle.std.specs.Prelude.{ℕ, suc, ◌+◌, ◌-◌, ◌*◌, ◌≤◌, ◌<◌, ◌≡◌, refl, true, false, List, [], ◌∷◌, length, get_or, drop, leb}
 use Rattle.std.proofs.Common.{arith, length-drop, drop-cons, le-leb, leb-true, leb-false}
 use Rattle.std.proofs.lemmas.Bool.{lt-leb}
-use Rattle.patterns.specs.Bools.{by_test}
+use Rattle.patterns.proofs.Bools.{by_test}
 use Rattle.patterns.specs.Utf8.{between}
 use Rattle.tokens.specs.Tokens.{dec}
 use Rattle.lines.specs.Hex.{hex_value, byte_of, pair}

@@ -5,8 +5,9 @@ use Rattle.std.specs.Prelude.{◌≡◌, refl, Bool, true, false, not, List, len
 use Rattle.std.proofs.Math.Path.{ap, sym}
 use Rattle.std.proofs.Common.{◌∙◌, true≢false, arith, drop-drop, leb-true, leb-false}
 use Rattle.std.proofs.Math.ListN.{drop}
-use Rattle.patterns.specs.Bools.{by_test}
-use Rattle.patterns.specs.Walk.{span, span_within, span_stops, span_over}
+use Rattle.patterns.proofs.Bools.{by_test}
+use Rattle.patterns.specs.Walk.{span}
+use Rattle.patterns.proofs.Walk.{span_within, span_stops, span_over}
 use Rattle.lines.specs.declared.decimals.Number.{Number}
 use Rattle.lines.specs.Decimals.{space, number, behind}
 use Rattle.lines.specs.DecimalLaws.{behind_value}

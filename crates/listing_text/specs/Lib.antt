@@ -3,9 +3,7 @@ pub mod Listed
 pub mod Turns
 pub mod ListedLaws
 pub mod Listing
-pub mod Examples
 pub mod Put
-pub mod Numbers
 pub mod Fitting
 pub mod Sizes
 pub mod Measuring

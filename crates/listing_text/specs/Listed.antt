@@ -1,6 +1,7 @@
 -- What a call of `list` answers, and what it leaves in the lent bytes: document 01's refusal 1 first, then 15 where the text has no
 -- room; on a refusal every byte stays. Assumes nothing.
 use Rattle.std.specs.Prelude.{ℕ, ◌≡◌, refl, cond, List, length, leb}
+
 use Rattle.refusals.specs.Refusals.{number_of}
 use Rattle.refusals.specs.Calls.{Reply, reply}
 use Rattle.tokens.specs.declared.Mode.TheVariants.{Normal}
@@ -33,16 +34,3 @@ listed_told (of_listed.Refused n) = refused (number_of n)
 
 abbrev pub outcome : Listed → List ℕ → Reply Answer (List ℕ)
 outcome g out = reply (listed_told g) out
-
--- Examples: the text at the front of what is lent, just room, and a byte too little.
-in_place : listed (ascii "x=") (ascii "..........................") ≡ reply (written 23) (ascii "tokens 2\n72 0 1\n55 1 2\n...")
-unfolding listed
-in_place = refl
-
-just_room : listed (ascii "x=") (ascii ".......................") ≡ reply (written 23) (ascii "tokens 2\n72 0 1\n55 1 2\n")
-unfolding listed
-just_room = refl
-
-no_room : listed (ascii "x=") (ascii "......................") ≡ reply (refused 15) (ascii "......................")
-unfolding listed
-no_room = refl

@@ -1,6 +1,7 @@
 -- What a call on an event stream whose record stands as numbers in lent memory answers and leaves: the stream's own `step`, on the record
 -- that the numbers are; and what it changes of the record is stored. Assumes nothing.
 use Rattle.std.specs.Prelude.{ℕ, ◌≡◌, refl, List, [], ◌∷◌, ◌++◌, replicate}
+
 use Rattle.refusals.specs.Calls.{unless}
 use Rattle.event_record.specs.Record.{Call, push_token, push_error, begin, end, end_with_error, bookmark, truncate, remove_bookmark, pop, Answer, done, none, position, event, refused, Reply, reply, span, event_of}
 use Rattle.events.specs.declared.Stream.{Stream}
@@ -51,23 +52,5 @@ live c l =
     unless refused ((forged l.stream, 24) ∷ []) l (kept c l.stream (step c (read l)))
 
 -- Examples. One slot and no open place: opened, a token pushed, popped; and a last number that is no truth value.
-abbrev sixteen : ℕ → List ℕ → ℕ → List ℕ
+abbrev pub sixteen : ℕ → List ℕ → ℕ → List ℕ
 sixteen count spans popped = (1 ∷ 0 ∷ 0 ∷ 0 ∷ 0 ∷ 0 ∷ count ∷ 0 ∷ 0 ∷ 0 ∷ 0 ∷ []) ++ spans ++ (popped ∷ [])
-
-as_opened : numbers_of (fresh 1 0) ≡ sixteen 0 (0 ∷ 0 ∷ 0 ∷ 0 ∷ []) 0
-unfolding numbers_of
-as_opened = refl
-
-token_pushed : live (push_token 2 (span 1 4)) (lent (sixteen 0 (0 ∷ 0 ∷ 0 ∷ 0 ∷ []) 0) (replicate 4 7) [])
-    ≡ reply done (lent (sixteen 1 (1 ∷ 4 ∷ 0 ∷ 0 ∷ []) 0) (2 ∷ 2 ∷ 1 ∷ 4 ∷ []) [])
-unfolding live stream_of numbers_of step
-token_pushed = refl
-
-token_popped : live pop (lent (sixteen 1 (1 ∷ 4 ∷ 0 ∷ 0 ∷ []) 0) (2 ∷ 2 ∷ 1 ∷ 4 ∷ []) [])
-    ≡ reply (event (event_of 2 2 (span 1 4))) (lent (sixteen 0 (1 ∷ 4 ∷ 1 ∷ 4 ∷ []) 1) (2 ∷ 2 ∷ 1 ∷ 4 ∷ []) [])
-unfolding live stream_of numbers_of step
-token_popped = refl
-
-no_truth_value : let l = lent (sixteen 0 (0 ∷ 0 ∷ 0 ∷ 0 ∷ []) 2) (replicate 4 7) [] in live pop l ≡ reply (refused 24) l
-unfolding live
-no_truth_value = refl

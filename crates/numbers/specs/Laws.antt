@@ -9,8 +9,9 @@ use Rattle.std.proofs.Math.ListN.{length}
 use Rattle.std.proofs.Math.Dec.{eqb}
 use Rattle.patterns.specs.Utf8.{Class}
 use Rattle.patterns.specs.Pattern.{Pat, nothing, byte, seq, alt, star, plus, is_nothing, nullable, deriv, walk, longest}
-use Rattle.patterns.specs.Bools.{by_test}
-use Rattle.patterns.specs.Walk.{Came, start, halt, swap, done, both, span}
+use Rattle.patterns.proofs.Bools.{by_test}
+use Rattle.patterns.specs.Walk.{Came, span}
+use Rattle.patterns.proofs.Walk.{start, halt, swap, done, both}
 use Rattle.tokens.specs.Tokens.{ascii, one_of, dec, or_underscore, float}
 use Rattle.numbers.specs.declared.Base.{Base}
 use Rattle.numbers.specs.declared.Base.TheVariants.{Octal, Decimal, Hex}

@@ -6,8 +6,9 @@ use Rattle.std.proofs.Math.Decide.{dec_lt}
 use Rattle.std.proofs.Math.Seq.{drop-cons}
 use Rattle.patterns.specs.Utf8.{Class}
 use Rattle.patterns.specs.Pattern.{Pat, nothing, byte, seq, star, plus, nullable, deriv, walk, longest}
-use Rattle.patterns.specs.Bools.{by_test}
-use Rattle.patterns.specs.Walk.{byte_within, ends, Came, start, step, free, swap, span, span_yes, span_no, span_over, span_stops, skip, through}
+use Rattle.patterns.proofs.Bools.{by_test}
+use Rattle.patterns.specs.Walk.{Came, span}
+use Rattle.patterns.proofs.Walk.{byte_within, ends, start, step, free, swap, span_yes, span_no, span_over, span_stops, skip, through}
 
 -- past its end a source reads as 0: any other byte stands within it
 pub inside : (s : List ℕ) (i n : ℕ) → eqb (get_or s i 0) n ≡ true → 0 < n → i < length s

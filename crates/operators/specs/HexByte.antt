@@ -6,9 +6,10 @@ use Rattle.std.proofs.Common.{sym, ap, ◌∙◌, arith}
 use Rattle.std.proofs.Math.Bool.{true}
 use Rattle.std.proofs.lemmas.Bool.{false≢true}
 use borrow.Author.Tests.{ne_eqb}
-use Rattle.patterns.specs.Bools.{and_first, and_second, by_test}
+use Rattle.patterns.proofs.Bools.{and_first, and_second, by_test}
 use Rattle.patterns.specs.Pattern.{Pat, byte, seq, deriv, longest}
-use Rattle.patterns.specs.Walk.{Came, start, move, halt, swap, done}
+use Rattle.patterns.specs.Walk.{Came}
+use Rattle.patterns.proofs.Walk.{start, move, halt, swap, done}
 use Rattle.tokens.specs.Tokens.{hex_or_mark, hex_byte}
 use Rattle.places.specs.Signs.{Byte, inside}
 

@@ -3,12 +3,6 @@
 use Rattle.std.specs.Prelude.{◌≡◌}
 use Rattle.std.proofs.Common.{sym, ap, ◌∙◌}
 
-pub determined : {A : Type 0} {x y z : A} → x ≡ z → y ≡ z → x ≡ y
-determined e f = e ∙ sym f
-
 -- what can be read back is told once
 abbrev pub Once : {G R : Type 0} → (G → R) → Type 0
 Once {G} {R} told = (r : R) (g h : G) → told g ≡ r → told h ≡ r → g ≡ h
-
-pub once : {G R : Type 0} (told : G → R) (read : R → G) → ((g : G) → read (told g) ≡ g) → Once told
-once told read same r g h e f = sym (same g) ∙ ap read (determined e f) ∙ same h

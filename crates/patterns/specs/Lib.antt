@@ -1,7 +1,6 @@
 -- The pattern language: its definitions (Utf8, Pattern) and its laws.
 pub mod Utf8
 pub mod Pattern
-pub mod Bools
 pub mod Lists
 pub mod Utf8Laws
 pub mod Meaning

@@ -146,11 +146,3 @@ walk r (b ∷ bs) k best = walk (deriv b r) bs (suc k) (cond (nullable r) k best
 -- the length of the longest prefix that r matches, 0 where it matches none: no rule of a token matches the empty text
 abbrev pub longest : Pat → List ℕ → ℕ
 longest r s = walk r s 0 0
-
--- of `a` or `abc`, the text `ab` has one byte, and `abc` all three
-best_end_kept : longest (alt (literal (97 ∷ [])) (literal (97 ∷ 98 ∷ 99 ∷ []))) (97 ∷ 98 ∷ [])
-    ∷ longest (alt (literal (97 ∷ [])) (literal (97 ∷ 98 ∷ 99 ∷ []))) (97 ∷ 98 ∷ 99 ∷ [])
-    ∷ []
-    ≡ 1 ∷ 3 ∷ []
-unfolding walk
-best_end_kept = refl

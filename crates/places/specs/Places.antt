@@ -7,9 +7,10 @@ use Rattle.std.proofs.Math.Bool.{true, false, cond, and-true, or-false}
 use Rattle.std.proofs.Math.Decide.{dec_lt}
 use Rattle.std.proofs.Math.ListN.{get_or-eq_default}
 use Rattle.patterns.specs.Utf8.{Class}
-use Rattle.patterns.specs.Bools.{and_first, and_second}
+use Rattle.patterns.proofs.Bools.{and_first, and_second}
 use Rattle.patterns.specs.Pattern.{Pat, nothing, byte, seq, star, literal, nullable, follow, if_in, deriv, longest}
-use Rattle.patterns.specs.Walk.{ends, Came, step, halt, prefix, prefix_short}
+use Rattle.patterns.specs.Walk.{Came, prefix}
+use Rattle.patterns.proofs.Walk.{ends, step, halt, prefix_short}
 use Rattle.tokens.specs.Tokens.{one_of}
 
 -- a byte of the class f stands at i

@@ -4,13 +4,15 @@ use Rattle.std.specs.Prelude.{ℕ, ◌+◌, ◌<◌, ◌≡◌, refl, Bool, true
 use Rattle.std.proofs.Common.{sym, ap, ◌∙◌, true≢false, add-zero, arith, get_or-drop, ne_eqb, leb-true}
 use Rattle.std.proofs.Math.Bool.{and-true}
 use Rattle.std.proofs.lemmas.Bool.{false≢true}
-use Rattle.patterns.specs.Bools.{and_first, and_second}
+use Rattle.patterns.proofs.Bools.{and_first, and_second}
 use Rattle.patterns.specs.Lists.{each}
 use Rattle.patterns.specs.Pattern.{literal, longest}
-use Rattle.patterns.specs.Walk.{byte_within, prefix, literal_longest}
+use Rattle.patterns.specs.Walk.{prefix}
+use Rattle.patterns.proofs.Walk.{byte_within, literal_longest}
 use Rattle.tokens.specs.declared.Hit.{Hit}
 use Rattle.tokens.specs.Tokens.{Spelling, spelled, one_of}
-use Rattle.tokens.specs.NoneOf.{NoneOf, not_one}
+use Rattle.tokens.specs.NoneOf.{NoneOf}
+use Rattle.tokens.proofs.NoneOf.{not_one}
 use Rattle.tokens.specs.Scan.{hit, better, best}
 
 -- how many bytes a spelling takes where the bytes a and b stand

@@ -12,7 +12,8 @@ use Rattle.reader.specs.declared.Reader.{Reader}
 use Rattle.reader.specs.declared.Scan.{Scan}
 use Rattle.reader.specs.declared.Scan.TheVariants.{End, Found, Refused}
 use Rattle.reader.specs.Reading.{scan_of, scan_told}
-use Rattle.reader.specs.Following.{Sound, Onward, Ends, Says, says}
+use Rattle.reader.specs.Following.{Sound, Onward, Ends, Says}
+use Rattle.reader.proofs.Following.{says}
 use Rattle.reader.specs.contracts.Scan.{the_type}
 
 module _ {src : List ℕ} {r : Reader} (h : Sound src r) where

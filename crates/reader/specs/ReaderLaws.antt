@@ -1,14 +1,16 @@
 -- The cases of opening a reader: ready or refused. Those of a scan: refused, or the definition's scan, which is at the end or finds a
 -- token; the tests of 24 come first. And no two answers are told alike, so that the promises leave no choice. Assumes nothing.
 use Rattle.std.specs.Prelude.{ℕ, ◌≤◌, ◌<◌, ◌≡◌, refl, List, length, leb}
+
 use Rattle.std.proofs.Common.{sym, ap, ◌∙◌, arith, leb-true, leb-false, le-leb}
 use Rattle.std.proofs.lemmas.Bool.{lt-leb}
-use Rattle.patterns.specs.Bools.{by_test}
-use Rattle.patterns.specs.Determined.{Once, once}
+use Rattle.patterns.proofs.Bools.{by_test}
+use Rattle.patterns.specs.Determined.{Once}
+use Rattle.patterns.proofs.Determined.{once}
 use Rattle.refusals.specs.RefusalLaws.{read_refusal, read_back}
 use Rattle.tokens.specs.Tokens.{tables_1}
 use Rattle.tokens.specs.Scan.{scan}
-use Rattle.tokens.specs.ScanLaws.{scan_end}
+use Rattle.tokens.proofs.ScanLaws.{scan_end}
 use Rattle.reader.specs.declared.Reader.{Reader}
 use Rattle.reader.specs.declared.Opened.{Opened}
 use Rattle.reader.specs.declared.Opened.TheVariants as of_opened
@@ -16,64 +18,15 @@ use Rattle.reader.specs.declared.Scan.{Scan}
 use Rattle.reader.specs.declared.Scan.TheVariants as of_scan
 use Rattle.reader.specs.Reading.{source_limit, Answer, ready, end, found, refused, start, open_of, moved, scan_of, opened_told, scan_told, entered}
 
-module _ (s : List ℕ) where
-  -- ready: within the limit, at the start
-  pub opened_ready : {r : Reader} → ready r ≡ open_of s → (length s ≤ source_limit) × (r ≡ start)
-  opened_ready {r} e =
-      by_test (leb (length s) source_limit)
-      (λ p. let q = rw p at e in let k : r ≡ start = cc in (leb-true _ _ p, k))
-      (λ p. let q = rw p at e in let z : ◌≡◌ {A = ℕ} 0 1 = cc in absurd (omega arith))
-
-  -- refused: over the limit, by 1
-  pub opened_refused : {n : ℕ} → refused n ≡ open_of s → (source_limit < length s) × (n ≡ 1)
-  opened_refused {n} e =
-      by_test (leb (length s) source_limit)
-      (λ p. let q = rw p at e in let z : ◌≡◌ {A = ℕ} 0 1 = cc in absurd (omega arith))
-      (λ p. let q = rw p at e in let k : n ≡ 1 = cc in (leb-false _ _ p, k))
-
-module _ (s : List ℕ) (r : Reader) where
-  pub too_long : source_limit < length s → refused 24 ≡ scan_of s r
-  too_long h = rw (lt-leb (length s) source_limit h)
-
-  module _ (l : length s ≤ source_limit) where
-    pub past_source : length s < r.place.0 → refused 24 ≡ scan_of s r
-    past_source h = rw (le-leb (length s) source_limit l, lt-leb r.place.0 (length s) h)
-
-    -- the definition's scan is the answer
-    pub within : r.place.0 ≤ length s → moved (scan tables_1 s r.place.0 r.mode) ≡ scan_of s r
-    within h = rw (le-leb (length s) source_limit l, le-leb r.place.0 (length s) h)
-
-    pub at_end : length s ≡ r.place.0 → end ≡ scan_of s r
-    at_end e = ap moved (sym ((scan_end tables_1 s r.place.0 r.mode).1 (omega arith))) ∙ within (omega arith)
-
--- A switch to the mode already in force does nothing.
-pub entered_same : (r : Reader) → entered r.mode r ≡ r
-entered_same r = refl
-
 -- An answer can be read back from what it is told by. Not every value is told by an opening, nor by a scan: the others are read as any.
-abbrev opened_read : Answer → Opened
+abbrev pub opened_read : Answer → Opened
 opened_read (ready r) = of_opened.Ready r
 opened_read end = of_opened.Ready start
 opened_read (found x r) = of_opened.Ready r
 opened_read (refused n) = of_opened.Refused (read_refusal n)
-
-opened_same : (y : Opened) → opened_read (opened_told y) ≡ y
-opened_same (of_opened.Ready r) = refl
-opened_same (of_opened.Refused n) = ap of_opened.Refused (read_back n)
-
-pub opened_once : Once opened_told
-opened_once = once opened_told opened_read opened_same
 
 abbrev pub scan_read : Answer → Scan
 scan_read (ready r) = of_scan.End
 scan_read end = of_scan.End
 scan_read (found x r) = of_scan.Found x r
 scan_read (refused n) = of_scan.Refused (read_refusal n)
-
-pub scan_same : (y : Scan) → scan_read (scan_told y) ≡ y
-scan_same of_scan.End = refl
-scan_same (of_scan.Found x r) = refl
-scan_same (of_scan.Refused n) = ap of_scan.Refused (read_back n)
-
-pub scan_once : Once scan_told
-scan_once = once scan_told scan_read scan_same

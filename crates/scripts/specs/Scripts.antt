@@ -34,19 +34,5 @@ module _ {C A : Type 0} (form : Form C A) where
   noted l answers = sets answers 0 (flat_map form.numbers l)
 
 -- Examples: a call is two numbers, which are added, and an answer is one.
-abbrev sums : Form ℕ ℕ
+abbrev pub sums : Form ℕ ℕ
 sums = record { call_width = 2; call_of = λ f. f 0 + f 1; answer_width = 1; numbers = λ a. a ∷ []; sized = λ a. refl }
-
-calls_of_five : calls_of sums (1 ∷ 2 ∷ 3 ∷ 4 ∷ 5 ∷ []) ≡ 3 ∷ 7 ∷ []
-unfolding calls_from
-calls_of_five = refl
-
-just_room : no_room sums (1 ∷ 2 ∷ 3 ∷ 4 ∷ 5 ∷ []) (8 ∷ 8 ∷ []) ≡ false
-just_room = refl
-
-too_short : no_room sums (1 ∷ 2 ∷ 3 ∷ 4 ∷ 5 ∷ []) (8 ∷ []) ≡ true
-too_short = refl
-
-noted_two : noted sums (3 ∷ 7 ∷ []) (8 ∷ 8 ∷ 8 ∷ []) ≡ 3 ∷ 7 ∷ 8 ∷ []
-unfolding noted
-noted_two = refl

@@ -9,10 +9,3 @@ use Rattle.tokens.specs.NoneOf.{NoneOf}
 abbrev pub below : ℕ → List ℕ
 below zero = []
 below (suc n) = n ∷ below n
-
-none_below : (n op : ℕ) → NoneOf (below n) op → n ≤ op
-none_below zero op h = omega arith
-none_below (suc n) op h = let i = none_below n op h.0 in let d = h.1 in omega arith
-
-pub no_entry : {C : Type 0} (table : List C) (other : C) (op : ℕ) → NoneOf (below (length table)) op → get_or table op other ≡ other
-no_entry table other op h = get_or-eq_default table other (none_below (length table) op h)

@@ -3,3 +3,5 @@ pub mod Held
 pub mod Pair
 pub mod Steps
 pub mod Switch
+pub mod Determined
+pub mod Unopened

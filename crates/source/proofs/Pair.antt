@@ -26,7 +26,8 @@ use denote.Struct.Field.{Field, rows}
 use denote.Struct.Declared as SD
 use denote.Struct.Laws as LL
 use denote.Struct.Rest.{own_shut}
-use Rattle.walks.specs.Steps.{slice_ty, cell, room, at_local}
+use Rattle.walks.specs.Steps.{slice_ty, cell, room}
+use Rattle.walks.proofs.Steps.{at_local}
 use Rattle.refusals.specs.Calls.{Reply, reply}
 use Rattle.reader.specs.declared.Reader.{Reader}
 use Rattle.reader.specs.Reading.{Answer}

@@ -23,7 +23,7 @@ use denote.Triple.Clauses.{Ended, Clauses, closing}
 use denote.Triple.Entry.{alive}
 use denote.Triple.Spec.{Meets, triple_of}
 use Rattle.walks.specs.Steps.{slice_ty, cell, room}
-use Rattle.walks.specs.Contracts.{spelled}
+use Rattle.walks.proofs.Contracts.{spelled}
 use Rattle.tokens.specs.contracts.Offset as Offset
 use Rattle.tokens.proofs.Offset.TheLaws as Offset'
 use Rattle.tokens.specs.contracts.Mode as Mode

@@ -21,8 +21,10 @@ use denote.Triple.Call.{calls_at}
 use denote.Triple.Clauses.{Clauses, closing}
 use denote.Triple.Entry.{alive}
 use denote.Triple.Spec.{triple_of}
-use Rattle.walks.specs.Steps.{slice_ty, gone}
-use Rattle.walks.specs.Contracts.{Follows, answered, returned}
+use Rattle.walks.specs.Steps.{slice_ty}
+use Rattle.walks.proofs.Steps.{gone}
+use Rattle.walks.specs.Contracts.{Follows}
+use Rattle.walks.proofs.Contracts.{answered, returned}
 use Rattle.tokens.specs.declared.Mode.{Mode}
 use Rattle.tokens.proofs.Offset.TheLaws as Offset'
 use Rattle.tokens.proofs.Mode.TheLaws as Mode'

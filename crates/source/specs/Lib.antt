@@ -2,4 +2,3 @@
 pub mod Sources
 pub mod Next
 pub mod Determined
-pub mod Unopened

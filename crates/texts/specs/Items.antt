@@ -7,9 +7,10 @@ use Rattle.std.proofs.Math.Bool.{or-false}
 use native.Mathlib.Omega.{arith}
 use Rattle.std.proofs.Math.Decide.{dec_lt}
 use Rattle.patterns.specs.Utf8.{Class}
-use Rattle.patterns.specs.Bools.{and_first, and_second, by_test}
+use Rattle.patterns.proofs.Bools.{and_first, and_second, by_test}
 use Rattle.patterns.specs.Pattern.{Pat, nothing, byte, seq, alt, star, follow, nullable, either, deriv, longest}
-use Rattle.patterns.specs.Walk.{Came, start, step, stop, over, onto, swap, Text, next}
+use Rattle.patterns.specs.Walk.{Came, Text, next}
+use Rattle.patterns.proofs.Walk.{start, step, stop, over, onto, swap}
 use Rattle.tokens.specs.Tokens.{one_of, none_of, pair}
 use Rattle.places.specs.Places.{stands, stands_within, stands_yes, stands_no, takes, lacks, byte_reads, failed}
 

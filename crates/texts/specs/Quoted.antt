@@ -5,7 +5,8 @@ use Rattle.std.proofs.Common.{ap, ◌∙◌, arith, eq-eqb}
 use Rattle.std.proofs.Math.Bool.{or-true}
 use Rattle.patterns.specs.Utf8.{Class}
 use Rattle.patterns.specs.Pattern.{Pat, seq, literal, row, longest}
-use Rattle.patterns.specs.Walk.{Came, start, prefix, prefix_within, text_alone, text_then, text_yes}
+use Rattle.patterns.specs.Walk.{Came, prefix}
+use Rattle.patterns.proofs.Walk.{start, prefix_within, text_alone, text_then, text_yes}
 use Rattle.tokens.specs.Tokens.{ascii, one_of, string, multi_line_string}
 use Rattle.places.specs.Places.{one_byte}
 use Rattle.texts.specs.Items.{items, past}

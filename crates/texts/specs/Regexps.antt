@@ -6,7 +6,8 @@ use Rattle.std.proofs.Common.{sym, ◌∙◌, arith, eqb-true}
 use Rattle.std.proofs.Math.Bool.{true, false, cond}
 use Rattle.patterns.specs.Utf8.{Class}
 use Rattle.patterns.specs.Pattern.{Pat, nothing, empty, byte, seq, alt, literal, optional, at_most_two, follow, either, if_in, deriv, longest}
-use Rattle.patterns.specs.Walk.{Came, start, stop, swap, prefix, prefix_within}
+use Rattle.patterns.specs.Walk.{Came, prefix}
+use Rattle.patterns.proofs.Walk.{start, stop, swap, prefix_within}
 use Rattle.tokens.specs.Tokens.{ascii, none_of, letter, pair, regexp}
 use Rattle.places.specs.Places.{Reads, one_byte, prefix_byte}
 use Rattle.texts.specs.Items.{items}

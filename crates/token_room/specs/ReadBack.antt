@@ -3,8 +3,9 @@
 use Rattle.std.specs.Prelude.{ℕ, zero, suc, ◌+◌, ◌-◌, ◌%◌, ◌<◌, ◌≤◌, ◌≡◌, refl, List, [], ◌∷◌, ◌++◌, length, get_or, ltb}
 use Rattle.std.proofs.Common.{ap, sym, ◌∙◌, arith, add-zero, zero-add, mod-lt, mod-eq_of_lt, ltb-true, ltb-false}
 use Rattle.std.proofs.Math.Nat.{mod-add-mod, mod-eq-sub-mod}
-use Rattle.patterns.specs.Bools.{by_test}
-use Rattle.rooms.specs.Slots.{Layout, slot_same, slot_other}
+use Rattle.patterns.proofs.Bools.{by_test}
+use Rattle.rooms.specs.Slots.{Layout}
+use Rattle.rooms.proofs.Slots.{slot_same, slot_other}
 use Rattle.tokens.specs.declared.Token.{Token}
 use Rattle.tokens.specs.Scan.{token}
 use Rattle.token_room.specs.Room.{width, numbers, from_numbers, slots_in, slot_of, write_at, read_at, write, read, nth, write_all}

@@ -10,4 +10,3 @@ pub mod Shapes
 pub mod BestLaws
 pub mod ScanLaws
 pub mod ListLaws
-pub mod DigitTables

@@ -37,7 +37,3 @@ marked_cases =
     ∷ case HexPattern (0x2F ∷ 0x2A ∷ 0xFF ∷ 0x2A ∷ 0x2F ∷ []) (token 77 0 5 ∷ []) Normal
     ∷ case HexJump (ascii "4]") (token 74 0 1 ∷ token 67 1 2 ∷ []) HexPattern
     ∷ []
-
-pub marked_right : map (λ (c : Case). list_from tables_1 c.source 0 c.mode) marked_cases ≡ map (λ (c : Case). listing c.tokens c.reached) marked_cases
-unfolding marked_cases list_from
-marked_right = refl

@@ -7,7 +7,3 @@ use Rattle.tokens.specs.Tokens.{one_of}
 abbrev pub NoneOf : List ℕ → ℕ → Type 0
 NoneOf [] a = Unit {0}
 NoneOf (x ∷ xs) a = NoneOf xs a × (a ≡ x → ⊥)
-
-pub not_one : (xs : List ℕ) (a : ℕ) → NoneOf xs a → one_of xs a ≡ false
-not_one [] a h = refl
-not_one (x ∷ xs) a h = rw (ne_eqb a x h.1) (not_one xs a h.0)

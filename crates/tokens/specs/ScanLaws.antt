@@ -8,8 +8,9 @@ use Rattle.std.proofs.Math.ListN.{length}
 use Rattle.patterns.specs.declared.Front.{Front}
 use Rattle.patterns.specs.declared.Front.TheVariants.{Whole, Broken}
 use Rattle.patterns.specs.Utf8.{Class, between, decode}
-use Rattle.patterns.specs.Lists.{each, each_right}
-use Rattle.patterns.specs.Longest.{longest_le}
+use Rattle.patterns.specs.Lists.{each}
+use Rattle.patterns.proofs.Lists.{each_right}
+use Rattle.patterns.proofs.Longest.{longest_le}
 use Rattle.tokens.specs.declared.Mode.{Mode}
 use Rattle.tokens.specs.declared.Mode.TheVariants.{Normal, HexPattern, HexJump}
 use Rattle.tokens.specs.declared.Choice.{Choice}
@@ -19,27 +20,11 @@ use Rattle.tokens.specs.declared.Scanned.TheVariants.{End, Found}
 use Rattle.tokens.specs.Kinds.{INVALID_UTF8, UNKNOWN}
 use Rattle.tokens.specs.Tokens.{Tables, tables_1}
 use Rattle.tokens.specs.Scan.{best, rules, tried, plain, unmatched, or_else, choose, scan_rest, scan}
-use Rattle.tokens.specs.BestLaws.{best_le, best_rule}
 
 -- a choice takes something, and no more than the l bytes that there are
-record Fair (l : ℕ) (c : Choice) : Type 0 where
-  moves : 1 ≤ c.len
-  inside : c.len ≤ l
-
-unmatched_fair : (f : Front) (s : List ℕ) → 1 ≤ length s → Fair (length s) (unmatched f s)
-unfolding unmatched
-unmatched_fair Broken s h = record { moves = omega arith; inside = h }
-unmatched_fair (Whole v n) s h = record { moves = omega arith; inside = omega (arith, longest_le plain s) }
-
-or_else_fair : (m : Mode) (k n l : ℕ) (next : Choice) → n ≤ l → Fair l next → Fair l (or_else m k n next)
-or_else_fair m k zero l next h f = f
-or_else_fair m k (suc n) l next h f = record { moves = omega arith; inside = h }
-
-choose_fair : (t : Tables) (ms : List Mode) (s : List ℕ) → 1 ≤ length s → Fair (length s) (choose t ms s)
-unfolding choose
-choose_fair t [] s h = unmatched_fair (decode s) s h
-choose_fair t (m ∷ ms) s h =
-    or_else_fair m (best (rules t m) s).kind (best (rules t m) s).len (length s) (choose t ms s) (best_le (rules t m) s) (choose_fair t ms s h)
+pub record Fair (l : ℕ) (c : Choice) : Type 0 where
+  pub moves : 1 ≤ c.len
+  pub inside : c.len ≤ l
 
 -- What is found at a place: the laws that the layers above use.
 pub record Step (src : List ℕ) (at : ℕ) (x : Token) : Type 0 where
@@ -47,64 +32,6 @@ pub record Step (src : List ℕ) (at : ℕ) (x : Token) : Type 0 where
   pub longer : at < x.end.0
   pub within : x.end.0 ≤ length src
 
-Allowed : List ℕ → ℕ → Scanned → Type 0
+unfoldable pub Allowed : List ℕ → ℕ → Scanned → Type 0
 Allowed src at End = length src ≤ at
 Allowed src at (Found x m) = Step src at x
-
-rest_allowed : (t : Tables) (src : List ℕ) (at : ℕ) (m : Mode) (s : List ℕ) → length s ≡ length src - at → Allowed src at (scan_rest t m at s)
-unfolding scan_rest Allowed
-rest_allowed t src at m [] e = omega arith
-rest_allowed t src at m (b ∷ s) e =
-    let f : Fair (length (b ∷ s)) (choose t (tried m) (b ∷ s)) = choose_fair t (tried m) (b ∷ s) (omega arith) in
-    record { starts = refl; longer = omega (arith, f.moves); within = omega (arith, f.inside) }
-
-module _ (t : Tables) (src : List ℕ) (at : ℕ) (m : Mode) where
-  allowed : Allowed src at (scan t src at m)
-  unfolding scan
-  allowed = rest_allowed t src at m (drop at src) (length-drop at src)
-
-  pub scan_found : (x : Token) (m' : Mode) → scan t src at m ≡ Found x m' → Step src at x
-  unfolding Allowed
-  scan_found x m' e = rw e at allowed
-
-  pub scan_end : (scan t src at m ≡ End) ↔ (length src ≤ at)
-  unfolding Allowed
-  scan_end = (λ e. rw e at allowed, λ h. past (scan t src at m) allowed h)
-    where
-      past : (y : Scanned) → Allowed src at y → length src ≤ at → y ≡ End
-      past End a h = refl
-      past (Found x m') a h = absurd (omega (arith, a.longer, a.within))
-
--- The kinds: where every rule's kind is in a class, and those of the two tokens that no rule makes, every token's kind is.
-module _ (c : Class) (t : Tables) (listed : (m : Mode) → each (λ r. c r.kind) (rules t m) ≡ true) (invalid : c INVALID_UTF8 ≡ true) (unknown : c UNKNOWN ≡ true) where
-  unmatched_kind : (f : Front) (s : List ℕ) → c (unmatched f s).kind ≡ true
-  unfolding unmatched
-  unmatched_kind Broken s = invalid
-  unmatched_kind (Whole v n) s = unknown
-
-  or_else_kind : (m : Mode) (k n : ℕ) (next : Choice) → (1 ≤ n → c k ≡ true) → c next.kind ≡ true → c (or_else m k n next).kind ≡ true
-  or_else_kind m k zero next f g = g
-  or_else_kind m k (suc n) next f g = f (omega arith)
-
-  choose_kind : (ms : List Mode) (s : List ℕ) → c (choose t ms s).kind ≡ true
-  unfolding choose
-  choose_kind [] s = unmatched_kind (decode s) s
-  choose_kind (m ∷ ms) s =
-      or_else_kind m (best (rules t m) s).kind (best (rules t m) s).len (choose t ms s)
-      (best_rule (λ k. c k ≡ true) (rules t m) s (each_right (λ r. c r.kind) (rules t m) (listed m))) (choose_kind ms s)
-
-  rest_kind : (m : Mode) (at : ℕ) (s : List ℕ) (x : Token) (m' : Mode) → scan_rest t m at s ≡ Found x m' → c x.kind ≡ true
-  unfolding scan_rest
-  rest_kind m at [] x m' e = let z : ◌≡◌ {A = ℕ} 0 1 = cc in absurd (omega arith)
-  rest_kind m at (b ∷ s) x m' e = let k : (choose t (tried m) (b ∷ s)).kind ≡ x.kind = cc in rw (← k) (choose_kind (tried m) (b ∷ s))
-
-  pub scan_kind : (src : List ℕ) (at : ℕ) (m : Mode) (x : Token) (m' : Mode) → scan t src at m ≡ Found x m' → c x.kind ≡ true
-  unfolding scan
-  scan_kind src at m x m' e = rest_kind m at (drop at src) x m' e
-
--- document 01's kinds
-pub kinds_1 : (m : Mode) → each (λ r. between 1 82 r.kind) (rules tables_1 m) ≡ true
-unfolding rules
-kinds_1 Normal = refl
-kinds_1 HexPattern = refl
-kinds_1 HexJump = refl

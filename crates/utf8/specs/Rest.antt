@@ -12,8 +12,9 @@ use Rattle.patterns.specs.declared.Front.TheVariants.{Whole, Broken}
 use Rattle.patterns.specs.declared.Lead.{Lead}
 use Rattle.patterns.specs.declared.Lead.TheVariants.{Alone, More, Bad}
 use Rattle.patterns.specs.Utf8.{between, lead, join, longer, finish, after_lead, decode}
-use Rattle.patterns.specs.Bools.{and_first, and_second, by_test}
-use Rattle.patterns.specs.Apart.{each_byte, at_byte}
+use Rattle.patterns.proofs.Bools.{and_first, and_second, by_test}
+use Rattle.patterns.specs.Apart.{each_byte}
+use Rattle.patterns.proofs.Apart.{at_byte}
 
 -- how many bytes a character has
 abbrev pub size : Front → ℕ

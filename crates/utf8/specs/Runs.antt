@@ -6,10 +6,11 @@ use Rattle.std.proofs.Common.{sym, ap, ◌∙◌, arith, length-drop, drop-cons}
 use borrow.Author.Tests.{le-leb, lt-ltb, ltb-true, ltb-false}
 use Rattle.patterns.specs.declared.Front.TheVariants.{Whole, Broken}
 use Rattle.patterns.specs.Utf8.{Class, decode, encode}
-use Rattle.patterns.specs.Bools.{by_test}
-use Rattle.patterns.specs.Utf8Laws.{Encoded, decoded, decoded_size}
+use Rattle.patterns.proofs.Bools.{by_test}
+use Rattle.patterns.specs.Utf8Laws.{Encoded}
+use Rattle.patterns.proofs.Utf8Laws.{decoded, decoded_size}
 use Rattle.patterns.specs.Pattern.{Pat, char, star, plus, deriv, longest}
-use Rattle.patterns.specs.Walk.{start, over, onto, walk_char, char_in, char_out, char_broken}
+use Rattle.patterns.proofs.Walk.{start, over, onto, walk_char, char_in, char_out, char_broken}
 
 -- characters of the class, perhaps none
 abbrev pub run : Class → Pat

@@ -3,11 +3,11 @@
 use Rattle.std.specs.Prelude.{ℕ, ◌≡◌, false, List, length}
 use Rattle.std.proofs.Common.{arith, le-leb}
 use Rattle.std.proofs.lemmas.Bool.{lt-leb}
-use Rattle.patterns.specs.Bools.{by_test}
+use Rattle.patterns.proofs.Bools.{by_test}
 use Rattle.reader.specs.declared.Reader.{Reader}
 use Rattle.reader.specs.Reading.{source_limit}
 use Rattle.reader.specs.Reading as reading
-use Rattle.reader.specs.ReaderLaws.{opened_ready, opened_refused}
+use Rattle.reader.proofs.ReaderLaws.{opened_ready, opened_refused}
 use Rattle.token_record.specs.Record.{Call, done, refused, reply}
 use Rattle.token_room.specs.Room.{slots_in}
 use Rattle.window.specs.declared.Window.{Window}

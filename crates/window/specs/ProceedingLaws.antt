@@ -6,7 +6,7 @@ use Rattle.std.proofs.Common.{sym, ap, ◌∙◌, arith}
 use Rattle.std.proofs.Math.Bool.{true}
 use Rattle.std.proofs.Math.Dec.{leb}
 use borrow.Author.Tests.{le-leb}
-use Rattle.patterns.specs.Bools.{by_test}
+use Rattle.patterns.proofs.Bools.{by_test}
 use Rattle.refusals.specs.declared.DoneAnswer.TheVariants as of_done
 use Rattle.refusals.specs.declared.Refusal.{Refusal}
 use Rattle.refusals.specs.Refusals.{number_of}

@@ -5,14 +5,15 @@ use Rattle.std.specs.Prelude.{◌≡◌, true, false, ◌&&◌, List, leb, ltb}
 use Rattle.std.proofs.Common.{ap, ◌∙◌, arith}
 use Rattle.std.proofs.Math.ListN.{length}
 use borrow.Author.Tests.{le-leb, lt-leb, le-ltb, ltb-true, ltb-false, leb-true, leb-false}
-use Rattle.patterns.specs.Bools.{by_test}
-use Rattle.patterns.specs.Determined.{Once, once}
+use Rattle.patterns.proofs.Bools.{by_test}
+use Rattle.patterns.specs.Determined.{Once}
+use Rattle.patterns.proofs.Determined.{once}
 use Rattle.refusals.specs.declared.DoneAnswer.{DoneAnswer}
 use Rattle.tokens.specs.declared.TokenIndex.{TokenIndex}
 use Rattle.reader.specs.declared.Reader.{Reader}
 use Rattle.reader.specs.Reading.{source_limit, ahead}
 use Rattle.reader.specs.Reading as reading
-use Rattle.reader.specs.Following.{ahead_all}
+use Rattle.reader.proofs.Following.{ahead_all}
 use Rattle.token_record.specs.Record.{done, refused, reply, least}
 use Rattle.fetching.specs.Fetching.{fetched}
 use Rattle.bookmarks.specs.HeldLaws.{least_le}

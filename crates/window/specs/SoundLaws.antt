@@ -2,7 +2,7 @@
 -- Assumes nothing.
 use Rattle.std.specs.Prelude.{ℕ, ◌≤◌, ◌≡◌, true}
 use borrow.Author.Tests.{leb-true, le-leb, eqb-true, eq-eqb}
-use Rattle.patterns.specs.Lists.{each_right}
+use Rattle.patterns.proofs.Lists.{each_right}
 use Rattle.reader.specs.Reading.{source_limit}
 use Rattle.token_room.specs.Room.{slots_in}
 use Rattle.bookmarks.specs.Bookmarks.{held}

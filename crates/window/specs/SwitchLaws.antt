@@ -2,7 +2,7 @@
 -- Assumes nothing.
 use Rattle.std.specs.Prelude.{ℕ, ◌≡◌, cond, List, length}
 use Rattle.std.proofs.Common.{sym, ◌∙◌}
-use Rattle.patterns.specs.Bools.{by_test}
+use Rattle.patterns.proofs.Bools.{by_test}
 use Rattle.tokens.specs.declared.Mode.{Mode}
 use Rattle.refusals.specs.declared.DoneAnswer.TheVariants as of_done
 use Rattle.refusals.specs.declared.Refusal.TheVariants.{NotAsOpened}

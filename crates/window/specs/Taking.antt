@@ -4,9 +4,10 @@ use Rattle.std.specs.Prelude.{ℕ, ◌+◌, ◌-◌, ◌≤◌, ◌≡◌, List,
 use Rattle.std.proofs.Common.{sym, ap, ◌∙◌}
 use native.Mathlib.Omega.{arith}
 use borrow.Author.Tests.{ltb-true}
-use Rattle.patterns.specs.Bools.{by_test}
+use Rattle.patterns.proofs.Bools.{by_test}
 use Rattle.tokens.specs.declared.Token.{Token}
-use Rattle.reader.specs.Following.{Sound, ahead_far, ahead_sound}
+use Rattle.reader.specs.Following.{Sound}
+use Rattle.reader.proofs.Following.{ahead_far, ahead_sound}
 use Rattle.token_record.specs.Record.{next_token, token, none, refused, Reply}
 use Rattle.window.specs.declared.Window.{Window}
 use Rattle.window.specs.declared.TokenAnswer.TheVariants as of_token

@@ -3,7 +3,8 @@
 use Rattle.std.specs.Prelude.{ℕ, ◌-◌, ◌≤◌, ◌≡◌, refl, Bool, true, false, ◌&&◌, List, [], ◌∷◌, get_or, eqb, leb}
 use Rattle.std.proofs.Common.{sym, ap, ◌∙◌, le-leb}
 use Rattle.std.proofs.Math.Bool.{and-true}
-use Rattle.patterns.specs.Lists.{each, each_fails}
+use Rattle.patterns.specs.Lists.{each}
+use Rattle.patterns.proofs.Lists.{each_fails}
 use Rattle.reader.specs.Reading.{source_limit}
 use Rattle.token_room.specs.Room.{slots_in}
 use Rattle.bookmarks.specs.Bookmarks.{unused_place, held, low_of}

@@ -3,8 +3,8 @@
 use Rattle.std.specs.Prelude.{ℕ, ◌+◌, ◌-◌, ◌≤◌, ◌≡◌, refl, true, false, List, length}
 use native.Mathlib.Omega.{arith}
 use Rattle.std.proofs.Common.{add-zero}
-use Rattle.patterns.specs.Bools.{by_test}
-use Rattle.reader.specs.Following.{ahead_none}
+use Rattle.patterns.proofs.Bools.{by_test}
+use Rattle.reader.proofs.Following.{ahead_none}
 use Rattle.token_record.specs.Record.{Call, peek_token, has_more, Answer, token, none, truth, done, index, refused, reply, wants}
 use Rattle.token_room.specs.Room.{write_all}
 use Rattle.window.specs.declared.Window.{Window}

@@ -3,8 +3,9 @@
 use Rattle.std.specs.Prelude.{ℕ, ◌<◌, ◌≤◌, ◌≡◌, refl, List, get_or, leb}
 use Rattle.std.proofs.Common.{sym, ◌∙◌, arith, leb-true, leb-false}
 use Rattle.std.proofs.Math.ListN.{get_or-eq_default}
-use Rattle.patterns.specs.Bools.{by_test}
-use Rattle.patterns.specs.Determined.{Once, once}
+use Rattle.patterns.proofs.Bools.{by_test}
+use Rattle.patterns.specs.Determined.{Once}
+use Rattle.patterns.proofs.Determined.{once}
 use Rattle.token_record.specs.Record.{current_token_index, Answer, Reply, reply}
 use Rattle.window.specs.declared.Window.{Window}
 use Rattle.window.specs.Window.{State, state}

@@ -5,19 +5,22 @@ use Rattle.std.proofs.Math.Path.{ap}
 use Rattle.std.proofs.Common.{◌∙◌, arith}
 use borrow.Author.Tests.{lt-ltb, le-ltb, leb-true, leb-false}
 use Rattle.std.proofs.lemmas.List.Edits.{sets}
-use Rattle.patterns.specs.Bools.{by_test}
-use Rattle.patterns.specs.Determined.{Once, once}
+use Rattle.patterns.proofs.Bools.{by_test}
+use Rattle.patterns.specs.Determined.{Once}
+use Rattle.patterns.proofs.Determined.{once}
 use Rattle.refusals.specs.declared.DoneAnswer.{DoneAnswer}
 use Rattle.refusals.specs.declared.DoneAnswer.TheVariants.{Done, Refused}
 use Rattle.refusals.specs.declared.Refusal.{Refusal}
 use Rattle.scripts.specs.Scripts.{calls_of}
-use Rattle.scripts.specs.Running.{Noted, ran, ran_all}
+use Rattle.scripts.specs.Running.{Noted}
+use Rattle.scripts.specs.Running.{ran}
+use Rattle.scripts.proofs.Running.{ran_all}
 use Rattle.reader.specs.Reading.{source_limit}
 use Rattle.token_record.specs.Record.{done, refused, Reply, reply}
 use Rattle.window.specs.declared.DoneGiven.{DoneGiven}
 use Rattle.window.specs.Window.{State, state, step, start, open_of, done_told, done_reply}
 use Rattle.window.specs.Determined.{done_read, done_same}
-use Rattle.demand3.specs.Simulation.{simulated, room_after}
+use Rattle.demand3.proofs.Simulation.{simulated, room_after}
 use Rattle.window_scripts.specs.declared.asking.ToldGiven.{ToldGiven}
 use Rattle.window_scripts.specs.Asking.{form, told_numbers, told_reply, told_of}
 use Rattle.window_scripts.specs.Script.{Lent, lent, replayed}

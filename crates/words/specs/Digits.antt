@@ -3,7 +3,7 @@
 use Rattle.std.specs.Prelude.{ℕ, zero, suc, ◌+◌, ◌-◌, ◌≤◌, ◌<◌, ◌≡◌, refl, true, false, List, [], ◌∷◌, length, get_or, leb, ltb}
 use Rattle.std.proofs.Common.{sym, arith, le-leb, leb-true, leb-false, lt-ltb, le-ltb}
 use Rattle.std.proofs.lemmas.Bool.{lt-leb}
-use Rattle.patterns.specs.Bools.{and_first, and_second, by_test}
+use Rattle.patterns.proofs.Bools.{and_first, and_second, by_test}
 use Rattle.tokens.specs.Unicode.{in_runs}
 use Rattle.tokens.specs.Examples.{spaced}
 

@@ -4,11 +4,12 @@ use Rattle.std.specs.Prelude.{ℕ, suc, ◌≡◌, refl, Bool, true, false, cond
 use Rattle.std.proofs.Common.{sym, ap, ◌∙◌, true≢false}
 use Rattle.std.proofs.Math.Bool.{and-false}
 use Rattle.std.proofs.lemmas.Bool.{eqb-false}
-use Rattle.patterns.specs.Bools.{and_first, and_second}
+use Rattle.patterns.proofs.Bools.{and_first, and_second}
 use Rattle.patterns.specs.Lists.{each}
 use Rattle.tokens.specs.Kinds.{IDENT}
 use Rattle.tokens.specs.Tokens.{Spelling, words_1, one_of}
-use Rattle.tokens.specs.NoneOf.{NoneOf, not_one}
+use Rattle.tokens.specs.NoneOf.{NoneOf}
+use Rattle.tokens.proofs.NoneOf.{not_one}
 use Rattle.words.specs.Keywords.{same, keyword_of}
 
 -- the spellings of n bytes

@@ -1,7 +1,7 @@
 -- `c_events::warpthistle_events_pop` meets its contract: what the live call answers is told by its status and by what is lent for the
 -- event, and it leaves what that does. Assumes nothing.
 use borrow.Author.Rules.{rules}
-use Rattle.statuses.specs.StatusLaws.{told_with_so}
+use Rattle.statuses.proofs.StatusLaws.{told_with_so}
 use Rattle.statuses.specs.OfEvents.{outcome}
 use Rattle.c_events.specs.Statuses.{event_in}
 use Rattle.c_events.proofs.warpthistle_events_pop.Statement.{statement}

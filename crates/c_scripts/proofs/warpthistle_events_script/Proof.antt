@@ -2,7 +2,7 @@
 -- that does. Assumes nothing.
 use borrow.Author.Rules.{rules}
 use mathlib.Core.Path.{refl}
-use Rattle.statuses.specs.StatusLaws.{told_done_so}
+use Rattle.statuses.proofs.StatusLaws.{told_done_so}
 use Rattle.statuses.specs.OfEvents.{outcome}
 use Rattle.events.specs.Stream.{done_told}
 use Rattle.c_scripts.proofs.warpthistle_events_script.Statement.{statement}

@@ -2,7 +2,7 @@
 -- that does. Assumes nothing.
 use borrow.Author.Rules.{rules}
 use mathlib.Core.Path.{refl}
-use Rattle.statuses.specs.StatusLaws.{told_done_so}
+use Rattle.statuses.proofs.StatusLaws.{told_done_so}
 use Rattle.statuses.specs.OfWindow.{outcome}
 use Rattle.window.specs.Window.{done_told}
 use Rattle.c_scripts.proofs.warpthistle_window_script.Statement.{statement}

@@ -1,7 +1,7 @@
 -- `c_window::warpthistle_window_bookmark` meets its contract: what the live call answers is told by its status and by what is lent for
 -- the index, and it leaves what that does. Assumes nothing.
 use borrow.Author.Rules.{rules}
-use Rattle.statuses.specs.StatusLaws.{told_with_so}
+use Rattle.statuses.proofs.StatusLaws.{told_with_so}
 use Rattle.statuses.specs.OfWindow.{outcome}
 use Rattle.c_window.specs.Statuses.{index_in}
 use Rattle.c_window.proofs.warpthistle_window_bookmark.Statement.{statement}

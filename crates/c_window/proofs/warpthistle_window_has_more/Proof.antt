@@ -1,7 +1,7 @@
 -- `c_window::warpthistle_window_has_more` meets its contract: whether the live call has more is told by its status, and it leaves what
 -- that does. Assumes nothing.
 use borrow.Author.Rules.{rules}
-use Rattle.statuses.specs.StatusLaws.{told_so}
+use Rattle.statuses.proofs.StatusLaws.{told_so}
 use Rattle.statuses.specs.OfWindow.{outcome}
 use Rattle.c_window.proofs.warpthistle_window_has_more.Statement.{statement}
 use Rattle.c_window.proofs.warpthistle_window_has_more.Tie as tie

@@ -9,7 +9,8 @@ use lib.ListN.{length, get_or}
 use lib.Dec.{leb}
 use borrow.Author.Rules.{rules}
 use borrow.Author.Tests.{not-true, not-false}
-use Rattle.patterns.specs.Walk.{Came, start, prefix_within, text_then, text_yes, text_no}
+use Rattle.patterns.specs.Walk.{Came}
+use Rattle.patterns.proofs.Walk.{start, prefix_within, text_then, text_yes, text_no}
 use Rattle.utf8.specs.Runs.{char_within}
 use Rattle.tokens.specs.Tokens.{ascii, block_comment}
 use Rattle.comments.specs.Comments.{unit, inside, comment_over, comment_on, comment_end, comment_char, comment_broken}

@@ -8,7 +8,8 @@ use lib.ListN.{length}
 use borrow.Author.Rules.{rules}
 use borrow.Author.Tests.{not-true, not-false}
 use Rattle.patterns.specs.Pattern.{byte, star}
-use Rattle.patterns.specs.Walk.{Came, start, step, stop, over, free, prefix_within, text_then, text_yes, text_no}
+use Rattle.patterns.specs.Walk.{Came}
+use Rattle.patterns.proofs.Walk.{start, step, stop, over, free, prefix_within, text_then, text_yes, text_no}
 use Rattle.tokens.specs.Tokens.{ascii, none_of, line_comment}
 use Rattle.places.specs.Places.{reads_yes, reads_no, run_reads}
 use Rattle.comments.proofs.line_comment.Statement.{statement}

@@ -6,7 +6,8 @@ use native.Mathlib.Nat.{sub-zero}
 use native.Mathlib.Omega.{arith}
 use borrow.Author.Rules.{rules}
 use lib.ListN.{length}
-use Rattle.scripts.specs.Running.{ran, ran_call, ran_none}
+use Rattle.scripts.specs.Running.{ran}
+use Rattle.scripts.proofs.Running.{ran_call, ran_none}
 use Rattle.events.specs.Stream.{state, step}
 use Rattle.event_scripts.specs.Script.{form}
 use Rattle.event_scripts.specs.ReplayLaws.{note}

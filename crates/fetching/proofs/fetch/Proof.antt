@@ -3,7 +3,7 @@
 use mathlib.Core.Path.{sym, ◌∙◌}
 use mathlib.Core.Bool.{true}
 use borrow.Author.Rules.{rules}
-use Rattle.fetching.specs.FetchingLaws.{Is_sound, sound_facts, fetched_unsound, fetched_none, fetched_all}
+use Rattle.fetching.proofs.FetchingLaws.{Is_sound, sound_facts, fetched_unsound, fetched_none, fetched_all}
 use Rattle.fetching.proofs.fetch.Statement.{statement}
 use Rattle.fetching.proofs.fetch.Tie as tie
 

@@ -1,7 +1,7 @@
 -- Either no more are asked for than are spare, or no more bytes are left; else it is looked up whether more tokens are.
 -- Assumes nothing.
 use borrow.Author.Rules.{rules}
-use Rattle.fetching.specs.FetchingLaws.{few_fit, short_fits, rest_fits}
+use Rattle.fetching.proofs.FetchingLaws.{few_fit, short_fits, rest_fits}
 use Rattle.fetching.proofs.fits.Statement.{statement}
 use Rattle.fetching.proofs.fits.Tie as tie
 

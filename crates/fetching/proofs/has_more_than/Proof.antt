@@ -3,7 +3,8 @@
 use mathlib.Core.Path.{refl}
 use borrow.Author.Rules.{rules}
 use native.Mathlib.Omega.{arith}
-use Rattle.fetching.specs.FetchingLaws.{Counting, counting_end, counting_next, counting_more}
+use Rattle.fetching.specs.FetchingLaws.{Counting}
+use Rattle.fetching.proofs.FetchingLaws.{counting_end, counting_next, counting_more}
 use Rattle.reader.proofs.Answers.{onward, at_end}
 use Rattle.fetching.proofs.has_more_than.Statement.{statement}
 use Rattle.fetching.proofs.has_more_than.Tie as tie

@@ -2,7 +2,7 @@
 -- Assumes nothing.
 use borrow.Author.Rules.{rules}
 use native.Mathlib.Omega.{arith}
-use Rattle.fetching.specs.FetchingLaws.{too_long, outside, inside}
+use Rattle.fetching.proofs.FetchingLaws.{too_long, outside, inside}
 use Rattle.fetching.proofs.is_sound.Statement.{statement}
 use Rattle.fetching.proofs.is_sound.Tie as tie
 

@@ -2,7 +2,8 @@
 -- Assumes nothing.
 use borrow.Author.Rules.{rules}
 use native.Mathlib.Omega.{arith}
-use Rattle.fetching.specs.FetchingLaws.{Storing, storing_start, storing_end, storing_done, index_below, storing_next}
+use Rattle.fetching.specs.FetchingLaws.{Storing}
+use Rattle.fetching.proofs.FetchingLaws.{storing_start, storing_end, storing_done, index_below, storing_next}
 use Rattle.reader.proofs.Answers.{onward, at_end}
 use Rattle.fetching.proofs.store.Statement.{statement}
 use Rattle.fetching.proofs.store.Tie as tie

@@ -6,7 +6,7 @@ use mathlib.Core.Bool.{not}
 use lib.ListN.{length}
 use borrow.Author.Rules.{rules}
 use borrow.Author.Tests.{eq-eqb, ne_eqb}
-use Rattle.patterns.specs.Walk.{span_yes, span_no, span_over}
+use Rattle.patterns.proofs.Walk.{span_yes, span_no, span_over}
 use Rattle.lines.specs.Lines.{other_than, next_byte}
 use Rattle.lines.proofs.next_byte.Statement.{statement}
 use Rattle.lines.proofs.next_byte.Tie as tie

@@ -4,7 +4,7 @@ use mathlib.Core.Path.{sym, ap, ◌∙◌}
 use borrow.Author.Rules.{rules}
 use Rattle.refusals.specs.Refusals.{number_of}
 use Rattle.reader.specs.Reading.{ready, refused, opened_told}
-use Rattle.listing_text.specs.ListedLaws.{Fits, fits}
+use Rattle.listing_text.proofs.ListedLaws.{Fits, fits}
 use Rattle.listing_text.proofs.list.Statement.{statement}
 use Rattle.listing_text.proofs.list.Tie as tie
 

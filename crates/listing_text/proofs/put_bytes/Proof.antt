@@ -6,7 +6,8 @@ use native.Mathlib.Nat.{add-zero}
 use native.Mathlib.Omega.{arith}
 use borrow.Author.Rules.{rules}
 use lib.ListN.{length, drop, length-set}
-use Rattle.listing_text.specs.Put.{put, put_next, put_done}
+use Rattle.listing_text.specs.Put.{put}
+use Rattle.listing_text.proofs.Put.{put_next, put_done}
 use Rattle.listing_text.proofs.put_bytes.Statement.{statement}
 use Rattle.listing_text.proofs.put_bytes.Tie as tie
 

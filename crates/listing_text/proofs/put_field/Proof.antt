@@ -3,7 +3,7 @@
 use native.Mathlib.Omega.{arith}
 use borrow.Author.Rules.{rules}
 use Rattle.listing_text.specs.Listing.{field}
-use Rattle.listing_text.specs.Put.{wrote_last}
+use Rattle.listing_text.proofs.Put.{wrote_last}
 use Rattle.listing_text.proofs.put_field.Statement.{statement}
 use Rattle.listing_text.proofs.put_field.Tie as tie
 

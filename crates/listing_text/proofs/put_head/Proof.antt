@@ -3,8 +3,8 @@
 use native.Mathlib.Omega.{arith}
 use borrow.Author.Rules.{rules}
 use Rattle.listing_text.specs.Listing.{head}
-use Rattle.listing_text.specs.Put.{wrote_both}
-use Rattle.listing_text.specs.Numbers.{length_field, length_head}
+use Rattle.listing_text.proofs.Put.{wrote_both}
+use Rattle.listing_text.proofs.Numbers.{length_field, length_head}
 use Rattle.listing_text.proofs.put_head.Statement.{statement}
 use Rattle.listing_text.proofs.put_head.Tie as tie
 

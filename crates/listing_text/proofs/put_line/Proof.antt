@@ -4,8 +4,8 @@ use native.Mathlib.Omega.{arith}
 use lib.ListN.{length-append}
 use borrow.Author.Rules.{rules}
 use Rattle.listing_text.specs.Listing.{line}
-use Rattle.listing_text.specs.Put.{wrote_both}
-use Rattle.listing_text.specs.Numbers.{length_field, length_line}
+use Rattle.listing_text.proofs.Put.{wrote_both}
+use Rattle.listing_text.proofs.Numbers.{length_field, length_line}
 use Rattle.listing_text.proofs.put_line.Statement.{statement}
 use Rattle.listing_text.proofs.put_line.Tie as tie
 

@@ -4,10 +4,12 @@ use Prim.Native.Nat.{◌-◌}
 use borrow.Author.Rules.{rules}
 use native.Mathlib.Omega.{arith}
 use lib.ListN.{length}
-use Rattle.reader.specs.Following.{Sound, Onward, rest, rest_end, rest_more}
+use Rattle.reader.specs.Following.{Sound, Onward, rest}
+use Rattle.reader.proofs.Following.{rest_end, rest_more}
 use Rattle.reader.proofs.Answers as answers
-use Rattle.listing_text.specs.Sizes.{count_fits}
-use Rattle.listing_text.specs.Turns.{Writing, writing_start, count_line, room_line, writing_next, count_end, writing_end}
+use Rattle.listing_text.proofs.Sizes.{count_fits}
+use Rattle.listing_text.specs.Turns.{Writing}
+use Rattle.listing_text.proofs.Turns.{writing_start, count_line, room_line, writing_next, count_end, writing_end}
 use Rattle.listing_text.proofs.put_lines.Statement.{statement}
 use Rattle.listing_text.proofs.put_lines.Tie as tie
 

@@ -7,8 +7,9 @@ use native.Mathlib.Omega.{arith}
 use borrow.Author.Rules.{rules}
 use lib.ListN.{length, set, length-set}
 use Rattle.listing_text.specs.Listing.{digit, decimal}
-use Rattle.listing_text.specs.Put.{put, put_byte, put_last}
-use Rattle.listing_text.specs.Numbers.{decimal_one, decimal_more, length_one, length_more}
+use Rattle.listing_text.specs.Put.{put}
+use Rattle.listing_text.proofs.Put.{put_byte, put_last}
+use Rattle.listing_text.proofs.Numbers.{decimal_one, decimal_more, length_one, length_more}
 use Rattle.listing_text.proofs.put_number.Statement.{statement}
 use Rattle.listing_text.proofs.put_number.Tie as tie
 

@@ -10,8 +10,9 @@ use lib.Seq.{slice}
 use Rattle.tokens.specs.declared.Token.{Token}
 use Rattle.reader.specs.Following.{rest}
 use Rattle.listing_text.specs.Listing.{lines, head, text}
-use Rattle.listing_text.specs.Put.{Wrote, wrote_up}
-use Rattle.listing_text.specs.Numbers.{length_head, head_least, text_parts, length_text}
+use Rattle.listing_text.specs.Put.{Wrote}
+use Rattle.listing_text.proofs.Put.{wrote_up}
+use Rattle.listing_text.proofs.Numbers.{length_head, head_least, text_parts, length_text}
 use Rattle.listing_text.proofs.put_text.Statement.{statement}
 use Rattle.listing_text.proofs.put_text.Tie as tie
 

@@ -7,7 +7,8 @@ use native.Mathlib.Omega.{arith}
 use borrow.Author.Rules.{rules}
 use lib.ListN.{length, take, drop, get_or, set, length-set}
 use lib.Seq.{slice, slice_empty, length-slice, length-take-le, take-suc, take-set-le, drop-append-le}
-use Rattle.listing_text.specs.Put.{put, put_nil, put_last}
+use Rattle.listing_text.specs.Put.{put}
+use Rattle.listing_text.proofs.Put.{put_nil, put_last}
 use Rattle.listing_text.proofs.put_up.Statement.{statement}
 use Rattle.listing_text.proofs.put_up.Tie as tie
 

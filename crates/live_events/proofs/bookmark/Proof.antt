@@ -5,7 +5,7 @@ use borrow.Author.Rules.{rules}
 use Rattle.event_record.specs.Record.{bookmark}
 use Rattle.events.specs.Stream.{position_told}
 use Rattle.live_events.specs.Live.{lent}
-use Rattle.live_events.specs.LiveCases.{not_made, made}
+use Rattle.live_events.proofs.LiveCases.{not_made, made}
 use Rattle.live_events.proofs.bookmark.Statement.{statement}
 use Rattle.live_events.proofs.bookmark.Tie as tie
 

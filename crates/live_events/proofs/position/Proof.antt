@@ -4,7 +4,7 @@ use mathlib.Core.Path.{refl}
 use borrow.Author.Rules.{rules}
 use Rattle.events.specs.Stream.{position_told}
 use Rattle.stream_numbers.specs.Numbers.{put_bookmarks}
-use Rattle.live_events.specs.LiveCases.{given_left}
+use Rattle.live_events.proofs.LiveCases.{given_left}
 use Rattle.live_events.proofs.position.Statement.{statement}
 use Rattle.live_events.proofs.position.Tie as tie
 

@@ -5,7 +5,7 @@ use borrow.Author.Rules.{rules}
 use Rattle.event_record.specs.Record.{push_token}
 use Rattle.events.specs.Stream.{done_told}
 use Rattle.live_events.specs.Live.{lent}
-use Rattle.live_events.specs.LiveCases.{not_made, made}
+use Rattle.live_events.proofs.LiveCases.{not_made, made}
 use Rattle.live_events.proofs.push_token.Statement.{statement}
 use Rattle.live_events.proofs.push_token.Tie as tie
 

@@ -4,7 +4,7 @@ use mathlib.Core.Path.{refl}
 use borrow.Author.Rules.{rules}
 use Rattle.events.specs.Stream.{done_told}
 use Rattle.stream_numbers.specs.Numbers.{put_opened}
-use Rattle.live_events.specs.LiveCases.{given_left}
+use Rattle.live_events.proofs.LiveCases.{given_left}
 use Rattle.live_events.proofs.with_opened.Statement.{statement}
 use Rattle.live_events.proofs.with_opened.Tie as tie
 

@@ -2,7 +2,7 @@
 -- with what may stand in the run of digits. Assumes nothing.
 use mathlib.Core.Path.{refl, sym, ◌∙◌}
 use borrow.Author.Rules.{rules}
-use Rattle.patterns.specs.Walk.{onto}
+use Rattle.patterns.proofs.Walk.{onto}
 use Rattle.tokens.specs.Tokens.{dec, or_underscore}
 use Rattle.numbers.specs.Parts.{digits, suffix, fraction}
 use Rattle.numbers.specs.Onward.{head_none, head_then}

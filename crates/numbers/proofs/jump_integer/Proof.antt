@@ -5,7 +5,7 @@ use mathlib.Core.Bool.{false}
 use mathlib.Core.Logic.{⊎_elim}
 use native.Mathlib.Omega.{arith}
 use borrow.Author.Rules.{rules}
-use Rattle.patterns.specs.Walk.{start}
+use Rattle.patterns.proofs.Walk.{start}
 use Rattle.numbers.specs.Parts.{digits}
 use Rattle.numbers.specs.Laws.{jump_ends, Prefixed, prefixed, plain}
 use Rattle.numbers.specs.declared.Base.TheVariants.{Decimal}

@@ -4,7 +4,8 @@ use Prim.Native.Nat.{◌+◌, ◌-◌}
 use mathlib.Core.Path.{◌≡◌, refl, sym, ◌∙◌}
 use lib.ListN.{length, drop}
 use borrow.Author.Rules.{rules}
-use Rattle.patterns.specs.Walk.{span, span_yes, span_no, span_over}
+use Rattle.patterns.specs.Walk.{span}
+use Rattle.patterns.proofs.Walk.{span_yes, span_no, span_over}
 use Rattle.numbers.specs.Parts.{run}
 use Rattle.numbers.proofs.run_end.Statement.{statement}
 use Rattle.numbers.proofs.run_end.Tie as tie

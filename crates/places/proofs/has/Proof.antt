@@ -9,7 +9,8 @@ use native.Mathlib.Omega.{arith}
 use lib.ListN.{length, get_or, drop}
 use borrow.Author.Rules.{rules}
 use borrow.Author.Tests.{eqb-true, eqb-false, not-true, not-false}
-use Rattle.patterns.specs.Walk.{prefix, prefix_done, prefix_short, prefix_no, prefix_yes}
+use Rattle.patterns.specs.Walk.{prefix}
+use Rattle.patterns.proofs.Walk.{prefix_done, prefix_short, prefix_no, prefix_yes}
 use Rattle.places.proofs.has.Statement.{statement}
 use Rattle.places.proofs.has.Tie as tie
 

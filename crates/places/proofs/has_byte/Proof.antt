@@ -5,7 +5,7 @@ use mathlib.Core.List.{[], ◌∷◌}
 use native.Mathlib.Omega.{arith}
 use borrow.Author.Rules.{rules}
 use borrow.Author.Tests.{le-ltb}
-use Rattle.patterns.specs.Walk.{prefix_short}
+use Rattle.patterns.proofs.Walk.{prefix_short}
 use Rattle.places.specs.Places.{prefix_byte}
 use Rattle.places.proofs.has_byte.Statement.{statement}
 use Rattle.places.proofs.has_byte.Tie as tie

@@ -6,7 +6,7 @@ use lib.ListN.{drop}
 use Rattle.tokens.specs.declared.Mode.TheVariants.{HexPattern, HexJump}
 use Rattle.tokens.specs.Tokens.{tables_1}
 use Rattle.tokens.specs.Scan.{tried}
-use Rattle.rules.specs.Choosing.{hit_taken, next_tried}
+use Rattle.rules.proofs.Choosing.{hit_taken, next_tried}
 use borrow.Author.Rules.{rules}
 use Rattle.rules.proofs.jump.Statement.{statement}
 use Rattle.rules.proofs.jump.Tie as tie

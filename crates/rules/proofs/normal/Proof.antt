@@ -6,7 +6,7 @@ use mathlib.Core.List.{[]}
 use lib.ListN.{drop}
 use Rattle.tokens.specs.declared.Mode.TheVariants.{Normal}
 use Rattle.tokens.specs.Tokens.{tables_1}
-use Rattle.rules.specs.Choosing.{hit_taken, next_tried}
+use Rattle.rules.proofs.Choosing.{hit_taken, next_tried}
 use borrow.Author.Rules.{rules}
 use Rattle.rules.proofs.normal.Statement.{statement}
 use Rattle.rules.proofs.normal.Tie as tie

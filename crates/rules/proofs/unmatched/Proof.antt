@@ -3,7 +3,7 @@
 use mathlib.Core.Path.{sym, ◌∙◌}
 use lib.ListN.{drop}
 use Rattle.tokens.specs.Tokens.{tables_1}
-use Rattle.rules.specs.Choosing.{broken_byte, unknown_text}
+use Rattle.rules.proofs.Choosing.{broken_byte, unknown_text}
 use borrow.Author.Rules.{rules}
 use Rattle.rules.proofs.unmatched.Statement.{statement}
 use Rattle.rules.proofs.unmatched.Tie as tie

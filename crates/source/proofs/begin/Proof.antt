@@ -7,7 +7,7 @@ use borrow.Author.Rules.{rules}
 use Rattle.refusals.specs.Calls.{reply}
 use Rattle.reader.specs.declared.Reader.{Reader}
 use Rattle.reader.specs.Reading.{Answer, ready, start, open_of, opened_told}
-use Rattle.reader.specs.ReaderLaws.{opened_ready}
+use Rattle.reader.proofs.ReaderLaws.{opened_ready}
 use Rattle.source.proofs.begin.Statement.{statement}
 use Rattle.source.proofs.begin.Tie as tie
 

@@ -5,7 +5,8 @@ use mathlib.Core.Path.{refl, sym, ◌∙◌}
 use native.Mathlib.Omega.{arith}
 use lib.ListN.{length}
 use borrow.Author.Rules.{rules}
-use Rattle.patterns.specs.Walk.{Came, start, over, free}
+use Rattle.patterns.specs.Walk.{Came}
+use Rattle.patterns.proofs.Walk.{start, over, free}
 use Rattle.texts.specs.Items.{items, pair_within, on_plain, on_pair, items_go, items_end}
 use Rattle.texts.specs.Quoted.{plain, plain_bare}
 use Rattle.texts.proofs.items.Statement.{statement}

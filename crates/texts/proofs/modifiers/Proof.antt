@@ -6,7 +6,8 @@ use native.Mathlib.Omega.{arith}
 use borrow.Author.Rules.{rules}
 use borrow.Author.Tests.{not-true, not-false}
 use Rattle.patterns.specs.Pattern.{byte, optional}
-use Rattle.patterns.specs.Walk.{Came, start, done}
+use Rattle.patterns.specs.Walk.{Came}
+use Rattle.patterns.proofs.Walk.{start, done}
 use Rattle.tokens.specs.Tokens.{letter}
 use Rattle.places.specs.Places.{stands_within, takes, lacks}
 use Rattle.texts.specs.Regexps.{modifiers, two_reads, one_reads}

@@ -5,7 +5,8 @@ use native.Mathlib.Omega.{arith}
 use borrow.Author.Rules.{rules}
 use borrow.Author.Tests.{not-true, not-false}
 use Rattle.patterns.specs.Pattern.{literal}
-use Rattle.patterns.specs.Walk.{Came, start, done, text_alone, text_then, text_yes, text_no}
+use Rattle.patterns.specs.Walk.{Came}
+use Rattle.patterns.proofs.Walk.{start, done, text_alone, text_then, text_yes, text_no}
 use Rattle.texts.specs.Quoted.{quoted, quotes_within, quoted_end}
 use Rattle.texts.proofs.quoted.Statement.{statement}
 use Rattle.texts.proofs.quoted.Tie as tie

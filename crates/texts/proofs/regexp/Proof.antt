@@ -8,7 +8,8 @@ use native.Mathlib.Omega.{arith}
 use borrow.Author.Rules.{rules}
 use borrow.Author.Tests.{not-true, not-false}
 use Rattle.patterns.specs.Pattern.{seq, literal, deriv}
-use Rattle.patterns.specs.Walk.{Came, onto, prefix_within, text_then, text_yes, text_no}
+use Rattle.patterns.specs.Walk.{Came}
+use Rattle.patterns.proofs.Walk.{onto, prefix_within, text_then, text_yes, text_no}
 use Rattle.tokens.specs.Tokens.{ascii, regexp}
 use Rattle.texts.specs.Items.{past}
 use Rattle.texts.specs.Quoted.{plain}

@@ -6,7 +6,8 @@ use native.Mathlib.Nat.{add-zero, sub-zero}
 use native.Mathlib.Omega.{arith}
 use borrow.Author.Rules.{rules}
 use lib.ListN.{length}
-use Rattle.scripts.specs.Running.{ran, ran_call, ran_none}
+use Rattle.scripts.specs.Running.{ran}
+use Rattle.scripts.proofs.Running.{ran_call, ran_none}
 use Rattle.window.specs.Window.{state, step}
 use Rattle.window_scripts.specs.Asking.{form}
 use Rattle.window_scripts.specs.ReplayLaws.{left}

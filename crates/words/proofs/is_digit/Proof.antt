@@ -4,7 +4,7 @@ use Prim.Native.Nat.{◌-◌}
 use native.Mathlib.Omega.{arith}
 use Rattle.tokens.specs.Unicode.{digits_16}
 use Rattle.words.specs.Digits.{Around, whole_table, go_up, go_down, not_found, found}
-use Rattle.tokens.specs.Examples.{nd_spaced}
+use Rattle.tokens.proofs.Examples.{nd_spaced}
 use Rattle.words.proofs.is_digit.Statement.{statement}
 use Rattle.words.proofs.is_digit.Tie as tie
 

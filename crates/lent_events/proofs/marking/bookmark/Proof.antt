@@ -10,7 +10,8 @@ use Rattle.events.specs.contracts.Stream.bookmark as core
 use Rattle.events.proofs.Stream.bookmark.Symbol as core-def
 use Rattle.events.proofs.Stream.bookmark.Met as core-thm
 use Rattle.lent_events.specs.Answers.{positions, stream_val}
-use Rattle.lent_events.specs.Lifted.{spelt, meets}
+use Rattle.lent_events.specs.Lifted.{spelt}
+use Rattle.lent_events.proofs.Lifted.{meets}
 use Rattle.lent_events.specs.Shapes.{ask, asking}
 use Rattle.lent_events.specs.contracts.marking.bookmark as thin
 use Rattle.lent_events.specs.contracts.marking.bookmark.Key as key

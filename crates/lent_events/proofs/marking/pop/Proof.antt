@@ -10,7 +10,8 @@ use Rattle.events.specs.contracts.Stream.pop as core
 use Rattle.events.proofs.Stream.pop.Symbol as core-def
 use Rattle.events.proofs.Stream.pop.Met as core-thm
 use Rattle.lent_events.specs.Answers.{events, stream_val}
-use Rattle.lent_events.specs.Lifted.{spelt, meets}
+use Rattle.lent_events.specs.Lifted.{spelt}
+use Rattle.lent_events.proofs.Lifted.{meets}
 use Rattle.lent_events.specs.Shapes.{ask, asking}
 use Rattle.lent_events.specs.contracts.marking.pop as thin
 use Rattle.lent_events.specs.contracts.marking.pop.Key as key

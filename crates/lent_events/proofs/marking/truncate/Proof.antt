@@ -10,7 +10,8 @@ use Rattle.events.specs.contracts.Stream.truncate as core
 use Rattle.events.proofs.Stream.truncate.Symbol as core-def
 use Rattle.events.proofs.Stream.truncate.Met as core-thm
 use Rattle.lent_events.specs.Answers.{dones, stream_val}
-use Rattle.lent_events.specs.Lifted.{spelt, meets}
+use Rattle.lent_events.specs.Lifted.{spelt}
+use Rattle.lent_events.proofs.Lifted.{meets}
 use Rattle.lent_events.specs.Shapes.{at_mark, marking}
 use Rattle.lent_events.specs.contracts.marking.truncate as thin
 use Rattle.lent_events.specs.contracts.marking.truncate.Key as key

@@ -10,7 +10,8 @@ use Rattle.events.specs.contracts.Stream.begin as core
 use Rattle.events.proofs.Stream.begin.Symbol as core-def
 use Rattle.events.proofs.Stream.begin.Met as core-thm
 use Rattle.lent_events.specs.Answers.{dones, stream_val}
-use Rattle.lent_events.specs.Lifted.{spelt, meets}
+use Rattle.lent_events.specs.Lifted.{spelt}
+use Rattle.lent_events.proofs.Lifted.{meets}
 use Rattle.lent_events.specs.Shapes.{open_node, opening}
 use Rattle.lent_events.specs.contracts.nodes.begin as thin
 use Rattle.lent_events.specs.contracts.nodes.begin.Key as key

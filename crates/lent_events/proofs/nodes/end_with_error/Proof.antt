@@ -10,7 +10,8 @@ use Rattle.events.specs.contracts.Stream.end_with_error as core
 use Rattle.events.proofs.Stream.end_with_error.Symbol as core-def
 use Rattle.events.proofs.Stream.end_with_error.Met as core-thm
 use Rattle.lent_events.specs.Answers.{dones, stream_val}
-use Rattle.lent_events.specs.Lifted.{spelt, meets}
+use Rattle.lent_events.specs.Lifted.{spelt}
+use Rattle.lent_events.proofs.Lifted.{meets}
 use Rattle.lent_events.specs.Shapes.{close_node, closing}
 use Rattle.lent_events.specs.contracts.nodes.end_with_error as thin
 use Rattle.lent_events.specs.contracts.nodes.end_with_error.Key as key

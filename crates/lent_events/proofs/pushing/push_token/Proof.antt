@@ -10,7 +10,8 @@ use Rattle.events.specs.contracts.Stream.push_token as core
 use Rattle.events.proofs.Stream.push_token.Symbol as core-def
 use Rattle.events.proofs.Stream.push_token.Met as core-thm
 use Rattle.lent_events.specs.Answers.{dones, stream_val}
-use Rattle.lent_events.specs.Lifted.{spelt, meets}
+use Rattle.lent_events.specs.Lifted.{spelt}
+use Rattle.lent_events.proofs.Lifted.{meets}
 use Rattle.lent_events.specs.Shapes.{push, pushing}
 use Rattle.lent_events.specs.contracts.pushing.push_token as thin
 use Rattle.lent_events.specs.contracts.pushing.push_token.Key as key

@@ -5,7 +5,7 @@ use native.Mathlib.Omega.{arith}
 use borrow.Author.Rules.{rules}
 use borrow.Author.Tests.{leb-true}
 use lib.Dec.{leb}
-use Rattle.patterns.specs.Bools.{and_first}
+use Rattle.patterns.proofs.Bools.{and_first}
 use Rattle.lines.specs.DecimalLaws.{digit_least}
 use Rattle.lines.specs.HexLaws.{value_dec, value_letter, value_none}
 use Rattle.lines.proofs.hex_pairs.hex_value.Statement.{statement}

@@ -1,7 +1,7 @@
 -- `listing_text::number_len` meets its contract: each answer stands between two tests, which are powers of ten.
 -- Assumes nothing.
 use native.Mathlib.Omega.{arith}
-use Rattle.listing_text.specs.Numbers.{length_one, decimal_length}
+use Rattle.listing_text.proofs.Numbers.{length_one, decimal_length}
 use Rattle.listing_text.proofs.form.number_len.Statement.{statement}
 use Rattle.listing_text.proofs.form.number_len.Tie as tie
 

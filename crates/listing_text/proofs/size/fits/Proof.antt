@@ -8,7 +8,7 @@ use lib.ListN.{length}
 use lib.Dec.{leb}
 use Rattle.reader.specs.Following.{rest}
 use Rattle.listing_text.specs.Listing.{text}
-use Rattle.listing_text.specs.Sizes.{text_most}
+use Rattle.listing_text.proofs.Sizes.{text_most}
 use Rattle.listing_text.proofs.size.fits.Statement.{statement}
 use Rattle.listing_text.proofs.size.fits.Tie as tie
 

@@ -2,7 +2,7 @@
 -- Assumes nothing.
 use native.Mathlib.Omega.{arith}
 use borrow.Author.Rules.{rules}
-use Rattle.listing_text.specs.Numbers.{length_head}
+use Rattle.listing_text.proofs.Numbers.{length_head}
 use Rattle.listing_text.proofs.size.head_len.Statement.{statement}
 use Rattle.listing_text.proofs.size.head_len.Tie as tie
 

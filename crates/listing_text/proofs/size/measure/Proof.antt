@@ -4,10 +4,12 @@ use Prim.Native.Nat.{◌-◌}
 use borrow.Author.Rules.{rules}
 use native.Mathlib.Omega.{arith}
 use lib.ListN.{length}
-use Rattle.reader.specs.Following.{Sound, Onward, rest, rest_end, rest_more}
+use Rattle.reader.specs.Following.{Sound, Onward, rest}
+use Rattle.reader.proofs.Following.{rest_end, rest_more}
 use Rattle.reader.proofs.Answers as answers
-use Rattle.listing_text.specs.Sizes.{count_fits, lines_fit}
-use Rattle.listing_text.specs.Measuring.{Measured, measured_start, measured_next, measured_end}
+use Rattle.listing_text.proofs.Sizes.{count_fits, lines_fit}
+use Rattle.listing_text.specs.Measuring.{Measured}
+use Rattle.listing_text.proofs.Measuring.{measured_start, measured_next, measured_end}
 use Rattle.listing_text.proofs.size.measure.Statement.{statement}
 use Rattle.listing_text.proofs.size.measure.Tie as tie
 

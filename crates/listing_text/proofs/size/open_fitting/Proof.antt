@@ -3,8 +3,8 @@
 use mathlib.Core.Path.{◌≡◌, sym, ap, ◌∙◌}
 use borrow.Author.Rules.{rules}
 use Rattle.reader.specs.Reading.{ready, open_of, opened_told}
-use Rattle.reader.specs.Following.{opened_sound}
-use Rattle.listing_text.specs.Fitting.{fitting_room, fitting_none, fitting_refused}
+use Rattle.reader.proofs.Following.{opened_sound}
+use Rattle.listing_text.proofs.Fitting.{fitting_room, fitting_none, fitting_refused}
 use Rattle.listing_text.proofs.size.open_fitting.Statement.{statement}
 use Rattle.listing_text.proofs.size.open_fitting.Tie as tie
 

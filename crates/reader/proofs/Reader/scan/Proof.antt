@@ -6,8 +6,8 @@ use native.Mathlib.Omega.{arith}
 use lib.ListN.{length}
 use Rattle.tokens.specs.Tokens.{tables_1}
 use Rattle.reader.specs.Reading.{moved}
-use Rattle.reader.specs.ReaderLaws.{too_long, past_source, at_end, within}
-use Rattle.rules.specs.Choosing.{choice_within, scan_chosen}
+use Rattle.reader.proofs.ReaderLaws.{too_long, past_source, at_end, within}
+use Rattle.rules.proofs.Choosing.{choice_within, scan_chosen}
 use borrow.Author.Rules.{rules}
 use Rattle.reader.proofs.Reader.scan.Statement.{statement}
 use Rattle.reader.proofs.Reader.scan.Tie as tie

@@ -4,7 +4,7 @@ use Rattle.patterns.specs.Pattern.{char}
 use mathlib.Core.List.{[], ◌∷◌}
 use Rattle.tokens.specs.Kinds.{COMMENT}
 use Rattle.tokens.specs.Tokens.{rule, block_comment, line_comment}
-use Rattle.rules.specs.Better.{of_rule, of_both}
+use Rattle.rules.proofs.Better.{of_rule, of_both}
 use borrow.Author.Rules.{rules}
 use Rattle.rules.proofs.hex_modes.commented.Statement.{statement}
 use Rattle.rules.proofs.hex_modes.commented.Tie as tie

@@ -5,9 +5,9 @@ use native.Mathlib.Omega.{arith}
 use Rattle.tokens.specs.declared.Mode.TheVariants.{HexJump}
 use Rattle.tokens.specs.Kinds.{INTEGER_LIT}
 use Rattle.tokens.specs.Tokens.{jump_integer}
-use Rattle.rules.specs.Better.{of_rule}
+use Rattle.rules.proofs.Better.{of_rule}
 use Rattle.rules.specs.First.{First}
-use Rattle.rules.specs.Families.{at_spacing, at_jump_integer, at_jump_operator}
+use Rattle.rules.proofs.Families.{at_spacing, at_jump_integer, at_jump_operator}
 use borrow.Author.Rules.{rules}
 use Rattle.rules.proofs.hex_modes.jump.Statement.{statement}
 use Rattle.rules.proofs.hex_modes.jump.Tie as tie

@@ -8,9 +8,10 @@ use Rattle.tokens.specs.declared.Mode.TheVariants.{HexPattern}
 use Rattle.tokens.specs.Kinds.{HEX_BYTE}
 use Rattle.tokens.specs.Tokens.{hex_byte}
 use Rattle.tokens.specs.Scan.{rules}
-use Rattle.rules.specs.Better.{of_rule}
+use Rattle.rules.proofs.Better.{of_rule}
 use Rattle.rules.specs.First.{hex_start, first_kinds, First}
-use Rattle.rules.specs.Families.{comment_rules, exact, at_spacing, at_hex, at_pattern_operator}
+use Rattle.rules.specs.Families.{comment_rules}
+use Rattle.rules.proofs.Families.{exact, at_spacing, at_hex, at_pattern_operator}
 use borrow.Author.Rules.{rules}
 use Rattle.rules.proofs.hex_modes.pattern.Statement.{statement}
 use Rattle.rules.proofs.hex_modes.pattern.Tie as tie

@@ -2,7 +2,7 @@
 -- Assumes nothing.
 use mathlib.Core.Path.{sym}
 use native.Mathlib.Omega.{arith}
-use Rattle.rules.specs.Better.{better_first, better_none, better_longer}
+use Rattle.rules.proofs.Better.{better_first, better_none, better_longer}
 use Rattle.rules.proofs.hits.longer.Statement.{statement}
 use Rattle.rules.proofs.hits.longer.Tie as tie
 

@@ -4,7 +4,7 @@ use Prim.Native.Nat.{◌-◌}
 use mathlib.Core.Path.{sym}
 use native.Mathlib.Omega.{arith}
 use Rattle.tokens.specs.Scan.{hit}
-use Rattle.rules.specs.Better.{better_first, better_none}
+use Rattle.rules.proofs.Better.{better_first, better_none}
 use borrow.Author.Rules.{rules}
 use Rattle.rules.proofs.hits.one.Statement.{statement}
 use Rattle.rules.proofs.hits.one.Tie as tie

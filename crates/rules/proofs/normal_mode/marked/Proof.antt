@@ -1,6 +1,6 @@
 -- The hit is that of one rule, which ends where the tail does.
 -- Assumes nothing.
-use Rattle.rules.specs.Marks.{marked_hit}
+use Rattle.rules.proofs.Marks.{marked_hit}
 use borrow.Author.Rules.{rules}
 use Rattle.rules.proofs.normal_mode.marked.Statement.{statement}
 use Rattle.rules.proofs.normal_mode.marked.Tie as tie

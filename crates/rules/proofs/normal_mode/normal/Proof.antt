@@ -9,10 +9,11 @@ use Rattle.tokens.specs.Unicode.{digits_16}
 use Rattle.tokens.specs.Tokens.{rule, spelled, operators, word_start, pattern_word}
 use Rattle.tokens.specs.Scan.{rules}
 use Rattle.places.specs.Signs.{inside}
-use Rattle.rules.specs.Better.{of_both}
+use Rattle.rules.proofs.Better.{of_both}
 use Rattle.rules.specs.First.{first_kinds, First}
-use Rattle.rules.specs.Families.{quote_rules, slash_rules, bang_rules, exact, at_spacing, at_word, at_number, at_operator}
-use Rattle.rules.specs.Marks.{starts, pattern_hit}
+use Rattle.rules.specs.Families.{quote_rules, slash_rules, bang_rules}
+use Rattle.rules.proofs.Families.{exact, at_spacing, at_word, at_number, at_operator}
+use Rattle.rules.proofs.Marks.{starts, pattern_hit}
 use borrow.Author.Rules.{rules}
 use Rattle.rules.proofs.normal_mode.normal.Statement.{statement}
 use Rattle.rules.proofs.normal_mode.normal.Tie as tie

@@ -3,7 +3,7 @@
 use mathlib.Core.List.{[], ◌∷◌}
 use Rattle.tokens.specs.Kinds.{FLOAT_LIT, INTEGER_LIT}
 use Rattle.tokens.specs.Tokens.{rule, float, integer}
-use Rattle.rules.specs.Better.{of_rule, of_both}
+use Rattle.rules.proofs.Better.{of_rule, of_both}
 use borrow.Author.Rules.{rules}
 use Rattle.rules.proofs.normal_mode.number.Statement.{statement}
 use Rattle.rules.proofs.normal_mode.number.Tie as tie

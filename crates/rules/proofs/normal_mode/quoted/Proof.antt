@@ -3,7 +3,7 @@
 use mathlib.Core.List.{[], ◌∷◌}
 use Rattle.tokens.specs.Kinds.{STRING_LIT}
 use Rattle.tokens.specs.Tokens.{rule, string, multi_line_string}
-use Rattle.rules.specs.Better.{of_rule, of_both}
+use Rattle.rules.proofs.Better.{of_rule, of_both}
 use borrow.Author.Rules.{rules}
 use Rattle.rules.proofs.normal_mode.quoted.Statement.{statement}
 use Rattle.rules.proofs.normal_mode.quoted.Tie as tie

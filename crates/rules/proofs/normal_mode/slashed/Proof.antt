@@ -4,7 +4,7 @@ use mathlib.Core.List.{[], ◌∷◌}
 use Rattle.patterns.specs.Pattern.{byte}
 use Rattle.tokens.specs.Kinds.{REGEXP, COMMENT}
 use Rattle.tokens.specs.Tokens.{rule, regexp, block_comment, line_comment}
-use Rattle.rules.specs.Better.{of_rule, of_both}
+use Rattle.rules.proofs.Better.{of_rule, of_both}
 use borrow.Author.Rules.{rules}
 use Rattle.rules.proofs.normal_mode.slashed.Statement.{statement}
 use Rattle.rules.proofs.normal_mode.slashed.Tie as tie

@@ -1,6 +1,6 @@
 -- The word ends where its tail does, and its kind is the keyword's or IDENT: what `word_hit` asks for.
 -- Assumes nothing.
-use Rattle.rules.specs.Words.{tail_within, word_hit}
+use Rattle.rules.proofs.Words.{tail_within, word_hit}
 use borrow.Author.Rules.{rules}
 use Rattle.rules.proofs.normal_mode.word.Statement.{statement}
 use Rattle.rules.proofs.normal_mode.word.Tie as tie

@@ -3,7 +3,7 @@
 use mathlib.Core.List.{[], ◌∷◌, map}
 use Rattle.tokens.specs.Kinds.{WHITESPACE}
 use Rattle.tokens.specs.Tokens.{rule, spelled, blanks, newlines}
-use Rattle.rules.specs.Better.{of_rule, of_both}
+use Rattle.rules.proofs.Better.{of_rule, of_both}
 use borrow.Author.Rules.{rules}
 use Rattle.rules.proofs.spacing.spacing.Statement.{statement}
 use Rattle.rules.proofs.spacing.spacing.Tie as tie

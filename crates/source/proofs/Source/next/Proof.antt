@@ -20,8 +20,8 @@ use denote.Triple.Statement.{Contract, Triple}
 use denote.Triple.Call.{calls_at}
 use denote.Triple.Spec.{triple_of}
 use denote.Triple.Table.{entered, cited}
-use Rattle.walks.specs.Steps.{gone}
-use Rattle.walks.specs.Contracts.{answered, returned}
+use Rattle.walks.proofs.Steps.{gone}
+use Rattle.walks.proofs.Contracts.{answered, returned}
 use Rattle.reader.specs.Reading.{scan_of}
 use Rattle.reader.specs.contracts.Scan as An
 use Rattle.reader.proofs.Scan.TheLaws as An'

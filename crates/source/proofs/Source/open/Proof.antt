@@ -24,8 +24,8 @@ use denote.Triple.Statement.{Contract, Triple}
 use denote.Triple.Call.{calls_at}
 use denote.Triple.Spec.{triple_of}
 use denote.Triple.Table.{entered, cited}
-use Rattle.walks.specs.Steps.{gone}
-use Rattle.walks.specs.Contracts.{spelled, answered, returned}
+use Rattle.walks.proofs.Steps.{gone}
+use Rattle.walks.proofs.Contracts.{spelled, answered, returned}
 use Rattle.refusals.specs.Calls.{reply}
 use Rattle.refusals.specs.contracts.DoneAnswer as An
 use Rattle.refusals.proofs.DoneAnswer.TheLaws as An'

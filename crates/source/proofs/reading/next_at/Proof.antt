@@ -30,8 +30,8 @@ use denote.Triple.Statement.{Contract, Triple}
 use denote.Triple.Call.{calls_at}
 use denote.Triple.Spec.{triple_of}
 use denote.Triple.Table.{entered, cited}
-use Rattle.walks.specs.Steps.{gone}
-use Rattle.walks.specs.Contracts.{spelled, answered, returned}
+use Rattle.walks.proofs.Steps.{gone}
+use Rattle.walks.proofs.Contracts.{spelled, answered, returned}
 use Rattle.tokens.specs.declared.Offset.{Offset}
 use Rattle.tokens.specs.declared.Mode.{Mode}
 use Rattle.tokens.specs.contracts.Offset as Offset

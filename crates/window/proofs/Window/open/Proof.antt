@@ -6,7 +6,7 @@ use borrow.Author.Rules.{rules}
 use native.Mathlib.Omega.{arith}
 use lib.ListN.{length}
 use Rattle.reader.specs.Reading.{opened_told}
-use Rattle.reader.specs.ReaderLaws.{opened_ready}
+use Rattle.reader.proofs.ReaderLaws.{opened_ready}
 use Rattle.window.specs.Window.{fresh_at}
 use Rattle.window.specs.OpenLaws.{ready, not_ready}
 use Rattle.window.proofs.Window.open.Statement.{statement}

@@ -1,0 +1,4 @@
+-- Theorems about what stands in specs/, in modules of the same names.
+pub mod RecordLaws
+pub mod Unclosed
+pub mod Examples

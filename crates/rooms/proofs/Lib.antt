@@ -1,0 +1,3 @@
+-- Theorems about what stands in specs/, in modules of the same names.
+pub mod Stores
+pub mod Slots
