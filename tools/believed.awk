@@ -1,7 +1,8 @@
 # What has to be believed, from the tree; tools/believed calls it, and says what it prints. It reads crates.txt and docs/theorems.txt, then
-# the specs of all crates in reading order, the sources of the libraries, and the documents that promise theorems. All is bytes (LC_ALL=C).
+# the specs of all crates in reading order and their theorems in proofs/, the sources of the libraries, and the documents that promise
+# theorems. All is bytes (LC_ALL=C).
 #
-# An item is a definition, a type or a law of a specs file, known by file and name, as `tokens/specs/Scan best`. Its chunks are its
+# An item is a definition, a type or a law of a file of specs/ or proofs/, known by file and name, as `tokens/specs/Scan best`. Its chunks are its
 # statement and its clauses, or a type's head and its fields or constructors. The heads of the modules around it belong to it too.
 # A root is a crate, for the contracts of its public functions, or a theorem.
 
@@ -114,6 +115,7 @@ function take_spec(line,    indent) {
     if (in_head) { take_head(line); return }
     while (indent < 2 * modules) modules--
     if (line ~ /^use /) { take_use(line); return }
+    if (line ~ /^open /) return
     if (line ~ /^module /) {
         module_at[++modules] = file " " FNR
         head_start[module_at[modules]] = comment ? comment : FNR
@@ -141,7 +143,7 @@ function take_source(line) {
         contract_text[contracts] = contract
         contract_signature[contracts] = signature
     } else if (in_signature && (contract != "" || line ~ /^ *(requires|ensures) /)) {
-        sub(/^ *(requires|ensures) /, "", line)
+        sub(/^ *(requires|ensures)[*]? ([a-z_]+ )?/, "", line)
         contract = contract " " line
     } else if (in_signature) {
         signature = signature " " line
@@ -178,15 +180,11 @@ function leave(depth) {
 }
 
 # What a name of a module is: an item, `code CRATE TYPE` or `kit WORD`; nothing where it is not known.
-function in_module(module, name,    parts, n, crate) {
-    if (module !~ /^Rattle·/) return "kit " name
+function in_module(module, name,    parts, n) {
     n = split(module, parts, ".")
-    crate = parts[1]
-    sub(/^Rattle·/, "", crate)
-    sub(/·specs$/, "", crate)
-    if (parts[2] != "specs") return ""
-    if (parts[3] == "declared") return "code " crate " " parts[parts[n] == "the-variants" ? n - 1 : n]
-    return owner[crate "/specs/" parts[3], name]
+    if (parts[1] != "Rattle" || !(parts[2] in group_of)) return "kit " name
+    if (parts[4] == "declared") return "code " parts[2] " " parts[parts[n] == "TheVariants" ? n - 1 : n]
+    return owner[parts[2] "/" parts[3] "/" parts[4], name]
 }
 
 # What a name is in a file: its own, one that is used, or one behind the name of a module.
@@ -203,10 +201,10 @@ function resolved(place, word,    found, core) {
     found = meaning(place, word)
     if (found != "") return found
     core = word
-    gsub(/^_|_$/, "", core)
-    found = meaning(place, "_" core "_")
-    if (found == "") found = meaning(place, core "_")
-    if (found == "") found = meaning(place, "_" core)
+    gsub(/◌/, "", core)
+    found = meaning(place, "◌" core "◌")
+    if (found == "") found = meaning(place, core "◌")
+    if (found == "") found = meaning(place, "◌" core)
     return found
 }
 
@@ -243,7 +241,11 @@ function find(w, i, n, word, stop,    depth) {
 }
 
 # A name is said: unless it is bound, what it stands for is reached from `source`.
-function say(source, place, word,    found) {
+function say(source, place, word,    found, front) {
+    front = word
+    sub(/[.].*/, "", front)
+    # of a projection, as `c.tokens`, what it is taken of
+    if (front != "" && !((place, front) in alias)) word = front
     if (!is_name(word) || bound[word] > 0) return
     found = resolved(place, word)
     if (found == "") complain(source " says " word ", and nothing tells what that is")
@@ -440,10 +442,10 @@ function hold_promise(i,    n, parts, k, m, found, j) {
     }
 }
 
-# Whether an item is a public theorem whose file stands in the row, as two do in `tokens/specs/ScanLaws, ListLaws`.
+# Whether an item is a public theorem whose file stands in the row, as two do in `tokens/proofs/ScanLaws, ListLaws`.
 function is_promised(it, row,    parts) {
     split(file_of[it], parts, "/")
-    return kind[it] == "plain" && it in is_public && index(row, parts[1] "/specs/") && row ~ ("[^A-Za-z0-9]" parts[3] "[^A-Za-z0-9]")
+    return kind[it] == "plain" && it in is_public && index(row, parts[1] "/" parts[2] "/") && row ~ ("[^A-Za-z0-9]" parts[3] "[^A-Za-z0-9]")
 }
 
 # ---- the table ----
@@ -514,7 +516,7 @@ function complain(text) {
 }
 
 BEGIN {
-    n = split("( ) { } [ ] , ; : = | → × Type Unit ⊥ tt in let λ record where elim ↦ _ now ⌜ ⌝", w, " ")
+    n = split("( ) { } [ ] , ; : = | → × Type Unit ⊥ tt in let λ record where elim ↦ _ result", w, " ")
     for (i = 1; i <= n; i++) language[w[i]] = 1
 }
 FNR == 1 {

@@ -7,8 +7,7 @@ use crate::status;
 
 // A script of calls on an event stream that is opened over the two rooms, four numbers each; their answers, five numbers each, are written
 // from the front of `answers` on. Answers 0; or 15 where the answers have no room, and changes nothing that is lent.
-#[unsafe(no_mangle)]
-pub extern "C" fn rattle_events(
+pub fn rattle_events(
     script: &[u32],
     room: &mut [u32],
     opens: &mut [usize],

@@ -8,8 +8,7 @@ use crate::status;
 // A script of calls on a window that is opened on the source, two numbers each; their answers, four numbers each, are written from the
 // front of `answers` on. Answers 0; or 1 where the source is over the limit, then 15 where the answers have no room, and changes nothing
 // that is lent.
-#[unsafe(no_mangle)]
-pub extern "C" fn rattle_window(
+pub fn rattle_window(
     src: &[u8],
     script: &[u32],
     room: &mut [u32],
