@@ -1,6 +1,6 @@
 -- Each arm is a row of Table 3-7 as `lead` has it: the two are compared over the arm's range, and are the same there (row, more_row).
 -- Assumes nothing.
-use Rattle.std.proofs.Common.{refl, ◌∙◌, arith, rules}
+use Rattle.std.proofs.Common.{refl, ◌∙◌, arith}
 use Rattle.patterns.specs.Utf8.{lead}
 use Rattle.utf8.specs.Rows.{more_row, row}
 use Rattle.utf8.proofs.lead_of.Goals as goal

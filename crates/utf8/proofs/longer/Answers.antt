@@ -1,6 +1,6 @@
 -- Both cases are those of the definition; the length of a front of fewer than four bytes does not overflow.
 -- Assumes nothing.
-use Rattle.std.proofs.Common.{ap, arith, rules}
+use Rattle.std.proofs.Common.{ap, arith}
 use Rattle.utf8.specs.Rest.{size, one_longer}
 use Rattle.utf8.proofs.longer.Goals as goal
 
