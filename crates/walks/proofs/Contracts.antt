@@ -2,7 +2,6 @@
 -- function returns is what its contract wants. A contract speaks of tokens, result and last values alone, so nothing else is kept.
 -- Assumes nothing.
 use Rattle.std.proofs.Common.{sym, subst}
-
 use Rattle.std.specs.Prelude.{List, [], ◌∷◌}
 use seplogic.Ra.Ura.{Ura}
 use mir.Syntax.{Place, Body}
@@ -20,7 +19,6 @@ use denote.Steps.{said, only, facts, heard}
 use denote.Triple.Clauses.{Ended, Clauses, Lasts, AtExit, at_exit, lasts, ensured, closing}
 use denote.Triple.Entry.{Args, Vals, Res, alive, on_entry}
 use denote.Triple.Spec.{Spec, Meets, triple_of}
-use Rattle.walks.specs.Contracts.{Follows}
 
 -- A run meets a contract where it does so with the machine values of the parameters written out and their relations in hand.
 pub spelled : {M : Type 1} {𝓤 : Ura M} (𝓛 : Logic 𝓤) (S : Signature) (c : Spec 𝓤 S) (run : Fun 𝓤) (sp : (κs : Lfts S.lifetimes) → Spells (types_at S.params κs)) → ((κs : Lfts S.lifetimes) → Tellss (types_at S.params κs) (Ises (types_at S.params κs)) (sp κs))

@@ -1,19 +1,18 @@
 -- Steps that every walk of code by hand can take beside the kit's: a local's place, and a local that is freed wherever its two entries
 -- stand. Each is the kit's rule for one statement, at an environment or a context that is known only in part. Assumes nothing.
-use Rattle.std.specs.Prelude.{◌≡◌, ℕ, zero, List, [], ◌∷◌, get_or}
-
+use Rattle.std.specs.Prelude.{◌≡◌, ℕ, zero, List, ◌∷◌, get_or}
 use Rattle.std.proofs.Common.{sym, subst}
 use seplogic.Ra.Ura.{Ura}
-use seplogic.Ra.TreeShare.{full_share}
-use mir.Syntax.{Ty, Lifetime, Mutability, Width, Step as PStep, w64, ty_int, ty_ref, ty_struct, tcons, tnil, place}
+use base.Fraction.{full_share}
+use mir.Syntax.{Ty, Step as PStep, place}
 use mir.Val.{Val}
 use base.Logic.{ent, sep, via, mono_l, mono_r, assoc'}
-use base.Fml.{fat, froom, fdies}
+use base.Fml.{fdies}
 use prog.Wp.{Env, Spot, no_local, walk}
 use types.Logic.{Logic}
-use types.Kit.{Item, ‵, mean, ⋆, nth, del, pull, Goal, frees, Go, Seq, Step, step}
+use types.Kit.{Item, ‵, mean, ⋆, nth, del, pull, Goal, frees, Step, step}
 use types.Run.{Walks, Finds}
-use Rattle.walks.specs.Steps.{cell, goes_on, room, script, slice_ty}
+use Rattle.walks.specs.Steps.{cell}
 
 module _ {M : Type 1} {𝓤 : Ura M} {𝓛 : Logic 𝓤} {K : Type 0} {Γ : List (Item 𝓤)} where
   -- the place of a local that the environment has at an index

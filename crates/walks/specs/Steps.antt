@@ -1,18 +1,13 @@
 -- Steps that every walk of code by hand can take beside the kit's: a local's place, and a local that is freed wherever its two entries
 -- stand. Each is the kit's rule for one statement, at an environment or a context that is known only in part. Assumes nothing.
-use Rattle.std.specs.Prelude.{◌≡◌, ℕ, zero, List, [], ◌∷◌, get_or}
-
-use Rattle.std.proofs.Common.{sym, subst}
+use Rattle.std.specs.Prelude.{ℕ, zero, List, [], ◌∷◌}
 use seplogic.Ra.Ura.{Ura}
-use seplogic.Ra.TreeShare.{full_share}
-use mir.Syntax.{Ty, Lifetime, Mutability, Width, Step as PStep, w64, ty_int, ty_ref, ty_struct, tcons, tnil, place}
+use base.Fraction.{full_share}
+use mir.Syntax.{Ty, Lifetime, Mutability, Width, w64, ty_int, ty_ref, ty_struct, tcons, tnil}
 use mir.Val.{Val}
-use base.Logic.{ent, sep, via, mono_l, mono_r, assoc'}
-use base.Fml.{fat, froom, fdies}
-use prog.Wp.{Env, Spot, no_local, walk}
+use base.Fml.{fat, froom}
 use types.Logic.{Logic}
-use types.Kit.{Item, ‵, mean, ⋆, nth, del, pull, Goal, frees, Go, Seq, Step, step}
-use types.Run.{Walks, Finds}
+use types.Kit.{Item, ‵, Goal, Go, Seq}
 
 -- a slice's type, as MIR writes it
 abbrev pub slice_ty : Lifetime → Mutability → Width → Ty
