@@ -39,7 +39,7 @@ put() { # TEXT
 find_kit() {
     command -v rt >/dev/null || die "no rt on the path: the Rattle kit is needed"
     kit=$(rt doc 2>&1) || die "the Rattle kit does not work: $(printf '%s\n' "$kit" | tail -n 1)"
-    kit=${kit%/docs/START-HERE.md}
+    kit=${kit%/START-HERE.md}
 }
 
 # Prints the crates of the repository that a crate is built from, as crates.txt has them, each behind those that it needs; itself last.
@@ -52,16 +52,16 @@ needed() { # CRATE
             for (i = 1; i <= count; i++) need(part[i])
             print name
         }
-        { sub(/#.*/, "") }
+        { sub(/#.*/, ""); sub(/ staticlib:/, ":") }
         /^[a-z]/ { deps[$1] = $2 }
         END { need(crate) }' "$root/crates.txt"
 }
 
-# Whether a file is there, and no file of the crates that CRATE is built from is newer.
+# Whether a file is there, and no file of the crates that CRATE is built from is newer; what rt keeps in their out/ does not count.
 is_current() { # FILE CRATE
     [ -f "$1" ] && [ -r "$1" ] || return 1
     # shellcheck disable=SC2046
-    [ -z "$(cd "$root" && find crates.txt $(needed "$2" | sed 's|^|crates/|') -newer "$1" 2>/dev/null | head -n 1)" ]
+    [ -z "$(cd "$root" && find crates.txt $(needed "$2" | sed 's|^|crates/|') -name out -prune -o -newer "$1" ! -type d -print 2>/dev/null | head -n 1)" ]
 }
 
 # Ends with a word where target/ cannot be written.
@@ -136,8 +136,7 @@ follow() { # LOG CRATE..
         name=
         case $line in
         'ended '*) ended=${line#ended } && continue ;;
-        'rt: '*' proved ('*) name=${line#rt: } && name=${name%% *} ;;
-        'rt: target/staticlib/lib'*) name=${line#rt: target/staticlib/lib} && name=${name%%.a *} ;;
+        'crate '*': modules loaded='*) name=${line#crate } && name=${name%%:*} ;;
         esac
         printf '%s\n' "$line" >&4
         case $left in
@@ -164,7 +163,7 @@ proving() { # LOG CRATE COMMAND WORD..
 # Prints the line of a log that says best why rt failed.
 reason() { # LOG
     awk '/Permission denied|Read-only file system|No space left on device/ && !denied { denied = $0 }
-        /^rt: .*(NOT PROVED|FAILED \(|was not run)/ && !first { first = $0 }
+        /(^|: )(error: |no proof: |not proved$)/ && !first { first = $0 }
         { last = $0 }
         END { print (denied ? denied : first ? first : last) }' "$1"
 }
