@@ -1,6 +1,6 @@
 // Characters that are cut off: INVALID_UTF8, byte by byte.
 use crate::modes::one_byte;
-use crate::say;
+use std::io;
 use tokens::{INVALID_UTF8, Mode};
 
 // Whether each byte of a source of at most three is one INVALID_UTF8.
@@ -44,10 +44,8 @@ fn broken_among(from: u32, to: u32) -> u32 {
 }
 
 // One character for each row of bytes that can stand before a last one: U+0080 to U+D7FF, and from U+E000 on, past the surrogates.
-pub(crate) fn characters() {
-    say::text(b"cut off: ");
-    say::number(broken_among(2, 864) as usize);
-    say::text(b", past the surrogates: ");
-    say::number(broken_among(896, 17408) as usize);
-    say::text(b"\n");
+pub(crate) fn characters(rt: &impl Print) -> io::Result<()> {
+    let before = broken_among(2, 864);
+    let past = broken_among(896, 17408);
+    println!(rt; "cut off: {before}, past the surrogates: {past}")
 }

@@ -9,18 +9,19 @@ mod modes;
 mod say;
 mod sources;
 
+use std::io;
 use tokens::Mode;
 
-fn main() {
-    modes::marked();
-    modes::in_mode(Mode::Normal);
-    modes::in_mode(Mode::HexPattern);
-    modes::in_mode(Mode::HexJump);
-    lengths::openings();
-    lengths::rows();
-    lengths::texts();
-    cut_off::characters();
-    sources::in_mode(Mode::Normal);
-    sources::in_mode(Mode::HexPattern);
-    sources::in_mode(Mode::HexJump);
+fn main(rt: HostRuntime) -> io::Result<()> {
+    modes::marked(&rt)?;
+    modes::in_mode(&rt, Mode::Normal)?;
+    modes::in_mode(&rt, Mode::HexPattern)?;
+    modes::in_mode(&rt, Mode::HexJump)?;
+    lengths::openings(&rt)?;
+    lengths::rows(&rt)?;
+    lengths::texts(&rt)?;
+    cut_off::characters(&rt)?;
+    sources::in_mode(&rt, Mode::Normal)?;
+    sources::in_mode(&rt, Mode::HexPattern)?;
+    sources::in_mode(&rt, Mode::HexJump)
 }

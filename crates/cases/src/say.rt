@@ -1,7 +1,7 @@
 // What the groups say on standard output.
-use libc::STDOUT_FILENO;
 use reader::{Reader, Scan};
 use refusals::Refusal;
+use std::io;
 use tokens::{Mode, Offset, Token};
 
 // How a reader went through a source: the number of tokens, the last of them, and the reader after it.
@@ -12,67 +12,51 @@ struct Reading {
     reader: Reader,
 }
 
-// Bytes as they are.
-pub(crate) fn text(bytes: &[u8]) {
-    io::write_all(STDOUT_FILENO, bytes);
-}
-
-// A number in decimal.
-pub(crate) fn number(n: usize) {
-    io::print_decimal(STDOUT_FILENO, n as u64);
-}
-
 // A mode by its name.
-pub(crate) fn mode(m: Mode) {
+pub(crate) fn mode(rt: &impl Print, m: Mode) -> io::Result<()> {
     match m {
-        Mode::Normal => text(b"normal"),
-        Mode::HexPattern => text(b"pattern"),
-        Mode::HexJump => text(b"jump"),
+        Mode::Normal => print!(rt; "normal"),
+        Mode::HexPattern => print!(rt; "pattern"),
+        Mode::HexJump => print!(rt; "jump"),
     }
 }
 
 // A mode by the first letter of its name.
-pub(crate) fn letter(m: Mode) {
+pub(crate) fn letter(rt: &impl Print, m: Mode) -> io::Result<()> {
     let first = match m {
-        Mode::Normal => b'n',
-        Mode::HexPattern => b'p',
-        Mode::HexJump => b'j',
+        Mode::Normal => 'n',
+        Mode::HexPattern => 'p',
+        Mode::HexJump => 'j',
     };
-    text(&[first]);
+    print!(rt; "{first}")
 }
 
 // The mode of a reader, and where it stands.
-pub(crate) fn position(reader: Reader) {
+pub(crate) fn position(rt: &impl Print, reader: Reader) -> io::Result<()> {
     let m = reader.mode;
-    mode(m);
-    text(b" at ");
-    number(reader.place.0 as usize);
+    mode(rt, m)?;
+    print!(rt; " at {}", reader.place.0)
 }
 
 // A refusal by its number.
-pub(crate) fn refusal(r: Refusal) {
-    text(b"refused ");
-    number(refusals::number(r) as usize);
+pub(crate) fn refusal(rt: &impl Print, r: Refusal) -> io::Result<()> {
+    print!(rt; "refused {}", refusals::number(r))
 }
 
 // A token as document 01 writes it.
-pub(crate) fn token(t: Token) {
-    number(t.kind as usize);
-    text(b" ");
-    number(t.start.0 as usize);
-    text(b"..");
-    number(t.end.0 as usize);
+pub(crate) fn token(rt: &impl Print, t: Token) -> io::Result<()> {
+    print!(rt; "{} {}..{}", t.kind, t.start.0, t.end.0)
 }
 
 // What a reader answers that finds no token: none, where it stays as it is; or a refusal.
-fn ending(src: &[u8], reader: Reader) {
+fn ending(rt: &impl Print, src: &[u8], reader: Reader) -> io::Result<()> {
     match reader.scan(src) {
-        Scan::Found(_, _) => text(b"more tokens than bytes"),
+        Scan::Found(_, _) => print!(rt; "more tokens than bytes"),
         Scan::End => {
-            text(b"none, ");
-            position(reader);
+            print!(rt; "none, ")?;
+            position(rt, reader)
         }
-        Scan::Refused(r) => refusal(r),
+        Scan::Refused(r) => refusal(rt, r),
     }
 }
 
@@ -101,15 +85,14 @@ fn read_through(src: &[u8], opened: Reader) -> Reading {
 }
 
 // How a source is read: the number of tokens, the last of them, and the answer after it.
-pub(crate) fn source(src: &[u8], opened: Reader) {
+pub(crate) fn source(rt: &impl Print, src: &[u8], opened: Reader) -> io::Result<()> {
     let read = read_through(src, opened);
-    text(b"tokens ");
-    number(read.tokens);
+    print!(rt; "tokens {}", read.tokens)?;
     if 0 < read.tokens {
-        text(b", last ");
-        token(read.last);
+        print!(rt; ", last ")?;
+        token(rt, read.last)?;
     }
-    text(b", ");
-    ending(src, read.reader);
-    text(b"\n");
+    print!(rt; ", ")?;
+    ending(rt, src, read.reader)?;
+    println!(rt)
 }
