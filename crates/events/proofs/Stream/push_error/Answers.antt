@@ -1,0 +1,13 @@
+-- The test of 24, and then what `push` promises.
+-- Assumes nothing.
+use Rattle.events.specs.SoundLaws.{not_sound}
+use Rattle.events.specs.PushingLaws.{error_pushed}
+use Rattle.events.proofs.Stream.push_error.Goals as goal
+
+pub returns-then-is_sound : goal.returns-then-is_sound
+returns-then-is_sound c =
+    let i = c in
+    error_pushed _ _ _ i.is_sound.ensures i.if-is_sound.true (c.push.ensures _)
+
+pub returns-else-is_sound : goal.returns-else-is_sound
+returns-else-is_sound c = rw c.refused.ensures (not_sound _ _ c.is_sound.ensures c.if-is_sound.false)
