@@ -2,6 +2,7 @@
 use crate::{calls, forge, say};
 use events::Stream;
 use lines::Asked;
+use std::io;
 
 // The rooms are the first `numbers` of the numbers to lend, and the first `places` of the places.
 #[derive(Clone, Copy)]
@@ -44,62 +45,83 @@ fn at_most(asked: usize, there: usize) -> usize {
 }
 
 // The bench with as many numbers and places lent as are asked for.
-fn lent(b: Bench, asked: Asked, room: &mut [u32], opens: &mut [usize]) -> Bench {
+fn lent(
+    rt: &impl Print,
+    b: Bench,
+    asked: Asked,
+    room: &mut [u32],
+    opens: &mut [usize],
+) -> io::Result<Bench> {
     fill_room(room);
     fill_places(opens);
     let mut after = b;
     after.numbers = at_most(asked.first, room.len());
     after.places = at_most(asked.second, opens.len());
-    say::lent(after.numbers, after.places);
-    after
+    say::lent(rt, after.numbers, after.places)?;
+    Ok(after)
 }
 
 // A call is made, or a field is set, with what is lent.
-fn used(b: Bench, asked: Asked, width: usize, room: &mut [u32], opens: &mut [usize]) -> Bench {
+fn used(
+    rt: &impl Print,
+    b: Bench,
+    asked: Asked,
+    width: usize,
+    room: &mut [u32],
+    opens: &mut [usize],
+) -> io::Result<Bench> {
     let numbers = b.numbers;
     let places = b.places;
     if room.len() < numbers {
-        return b;
+        return Ok(b);
     }
     if opens.len() < places {
-        return b;
+        return Ok(b);
     }
     let mut after = b;
     after.stream = act(
+        rt,
         b.stream,
         asked,
         width,
         &mut room[0..numbers],
         &mut opens[0..places],
-    );
-    after
+    )?;
+    Ok(after)
 }
 
 // A line that starts with a capital letter sets a field.
 fn act(
+    rt: &impl Print,
     stream: Stream,
     asked: Asked,
     width: usize,
     room: &mut [u32],
     opens: &mut [usize],
-) -> Stream {
+) -> io::Result<Stream> {
     if (b'A' <= asked.letter) & (asked.letter <= b'Z') {
-        forge::set(stream, asked, room, opens)
+        forge::set(rt, stream, asked, room, opens)
     } else {
-        calls::make(stream, asked, width, room, opens)
+        calls::make(rt, stream, asked, width, room, opens)
     }
 }
 
 // Does what a line asks for, and says the answer.
-pub(crate) fn step(b: Bench, line: &[u8], room: &mut [u32], opens: &mut [usize]) -> Bench {
+pub(crate) fn step(
+    rt: &impl Print,
+    b: Bench,
+    line: &[u8],
+    room: &mut [u32],
+    opens: &mut [usize],
+) -> io::Result<Bench> {
     let asked = lines::ask(line);
     let letter = asked.letter;
     match letter {
         0 | b'-' => {
-            say::text(line);
-            b
+            rt.write_all(line)?;
+            Ok(b)
         }
-        b'l' => lent(b, asked, room, opens),
-        _ => used(b, asked, lines::next_byte(line, 0, b' '), room, opens),
+        b'l' => lent(rt, b, asked, room, opens),
+        _ => used(rt, b, asked, lines::next_byte(line, 0, b' '), room, opens),
     }
 }

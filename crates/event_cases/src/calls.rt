@@ -3,6 +3,7 @@
 use crate::{same, say};
 use event_scripts::{Asked, ToldGiven};
 use events::{EventAnswer, Stream};
+use std::io;
 
 // The number of the call that a word names: by its first letter and, where two words share that, by its length.
 fn number(letter: u8, width: usize) -> u32 {
@@ -35,28 +36,34 @@ fn named(line: lines::Asked, width: usize) -> Asked {
 }
 
 // Says what a call answered, and where the stream that a refused one gave back is not the one handed in.
-fn said(before: Stream, given: ToldGiven) -> Stream {
+fn said(rt: &impl Print, before: Stream, given: ToldGiven) -> io::Result<Stream> {
     let after = given.stream;
-    say::told(given.told);
+    say::told(rt, given.told)?;
     if given.told.tag == 5 {
-        same::remark(before, after);
+        same::remark(rt, before, after)?;
     }
-    after
+    Ok(after)
 }
 
 // Makes a call.
-fn call(s: Stream, asked: Asked, room: &mut [u32], opens: &mut [usize]) -> Stream {
-    said(s, event_scripts::call(s, room, opens, asked))
+fn call(
+    rt: &impl Print,
+    s: Stream,
+    asked: Asked,
+    room: &mut [u32],
+    opens: &mut [usize],
+) -> io::Result<Stream> {
+    said(rt, s, event_scripts::call(s, room, opens, asked))
 }
 
 // Opens a stream.
-fn open(room: &[u32], opens: &[usize]) -> Stream {
-    say::text(b"open");
-    Stream::open(room, opens)
+fn open(rt: &impl Print, room: &[u32], opens: &[usize]) -> io::Result<Stream> {
+    print!(rt; "open")?;
+    Ok(Stream::open(room, opens))
 }
 
 // Pops until there is none: at most once for each slot of four numbers, and once more.
-fn drain(s: Stream, room: &[u32], opens: &[usize]) -> Stream {
+fn drain(rt: &impl Print, s: Stream, room: &[u32], opens: &[usize]) -> io::Result<Stream> {
     let most = room.len() / 4 + 1;
     let mut left = s;
     let mut turns: usize = 0;
@@ -65,39 +72,46 @@ fn drain(s: Stream, room: &[u32], opens: &[usize]) -> Stream {
         let answer = given.answer;
         left = given.stream;
         match answer {
-            EventAnswer::Event(e) => say::next_event(turns, e),
-            EventAnswer::None => return left,
+            EventAnswer::Event(e) => say::next_event(rt, turns, e)?,
+            EventAnswer::None => return Ok(left),
             EventAnswer::Refused(r) => {
-                say::refusal(r);
-                return left;
+                say::refusal(rt, r)?;
+                return Ok(left);
             }
         }
         turns += 1;
     }
-    left
+    Ok(left)
 }
 
 // What else a line can name.
-fn other(s: Stream, letter: u8, room: &[u32], opens: &[usize]) -> Stream {
+fn other(
+    rt: &impl Print,
+    s: Stream,
+    letter: u8,
+    room: &[u32],
+    opens: &[usize],
+) -> io::Result<Stream> {
     match letter {
-        b'o' => open(room, opens),
-        b'd' => drain(s, room, opens),
-        _ => say::view(s, room, opens),
+        b'o' => open(rt, room, opens),
+        b'd' => drain(rt, s, room, opens),
+        _ => say::view(rt, s, room, opens),
     }
 }
 
 // Does what a line names.
 pub(crate) fn make(
+    rt: &impl Print,
     s: Stream,
     line: lines::Asked,
     width: usize,
     room: &mut [u32],
     opens: &mut [usize],
-) -> Stream {
+) -> io::Result<Stream> {
     let letter = line.letter;
     if (letter == b'o') | (letter == b'd') | (letter == b'v') {
-        other(s, letter, &*room, &*opens)
+        other(rt, s, letter, &*room, &*opens)
     } else {
-        call(s, named(line, width), room, opens)
+        call(rt, s, named(line, width), room, opens)
     }
 }

@@ -1,9 +1,9 @@
 // The lines that set a field of the stream's record, or a number of the rooms.
-use crate::say;
 use event_record::Span;
 use events::Stream;
 use lines::Asked;
 use rooms::Slot;
+use std::io;
 use tokens::Offset;
 
 // A span of two numbers.
@@ -76,8 +76,14 @@ fn set_field(s: Stream, asked: Asked) -> Stream {
 }
 
 // Sets what a line asks for.
-pub(crate) fn set(s: Stream, asked: Asked, room: &mut [u32], opens: &mut [usize]) -> Stream {
-    say::text(b"set");
+pub(crate) fn set(
+    rt: &impl Print,
+    s: Stream,
+    asked: Asked,
+    room: &mut [u32],
+    opens: &mut [usize],
+) -> io::Result<Stream> {
+    print!(rt; "set")?;
     set_number(asked, room, opens);
-    set_field(s, asked)
+    Ok(set_field(s, asked))
 }

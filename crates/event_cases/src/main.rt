@@ -15,12 +15,8 @@ mod forge;
 mod same;
 mod say;
 
-use libc::STDIN_FILENO;
-
-// Room for all cases.
-fn text_room() -> [u8; 600000] {
-    [0; 600000]
-}
+use std::io;
+use std::io::Read;
 
 // What there is to lend.
 fn event_room() -> [u32; 4099] {
@@ -32,19 +28,21 @@ fn open_places() -> [usize; 256] {
 }
 
 // Runs each line of the cases.
-fn run(text: &[u8], room: &mut [u32], opens: &mut [usize]) {
+fn run(rt: &impl Print, text: &[u8], room: &mut [u32], opens: &mut [usize]) -> io::Result<()> {
     let mut on = bench::new();
     let mut at = 0;
     while at < text.len() {
         let end = lines::next_byte(text, at, b'\n');
-        on = bench::step(on, &text[at..end], room, opens);
-        say::text(b"\n");
+        on = bench::step(rt, on, &text[at..end], room, opens)?;
+        println!(rt)?;
         at = end + 1;
     }
+    Ok(())
 }
 
-fn main() {
-    let mut text = text_room();
-    let n = io::read_full(STDIN_FILENO, &mut text);
-    run(&text[..n], &mut event_room(), &mut open_places());
+// Of the cases at most 600,000 bytes are read.
+fn main(rt: HostRuntime) -> io::Result<()> {
+    let mut text = Vec::new(rt.alloc());
+    rt.reader().take(600000).read_to_end(&mut text)?;
+    run(&rt, &text, &mut event_room(), &mut open_places())
 }

@@ -1,7 +1,7 @@
 // Whether two streams are the same, in each field.
-use crate::say;
 use event_record::Span;
 use events::Stream;
+use std::io;
 
 // Whether two spans are the same.
 fn spans(a: Span, b: Span) -> bool {
@@ -20,10 +20,11 @@ fn counts(a: Stream, b: Stream) -> bool {
 }
 
 // Says where the stream that a refused call gave back is not the one handed in.
-pub(crate) fn remark(before: Stream, after: Stream) {
+pub(crate) fn remark(rt: &impl Print, before: Stream, after: Stream) -> io::Result<()> {
     let last = spans(before.last, after.last);
     let gone = spans(before.gone, after.gone);
     if !(counts(before, after) & last & gone) {
-        say::text(b", stream changed");
+        print!(rt; ", stream changed")?;
     }
+    Ok(())
 }

@@ -2,123 +2,114 @@
 use event_record::{Event, Span};
 use event_scripts::Told;
 use events::Stream;
-use libc::STDOUT_FILENO;
 use refusals::Refusal;
-
-// Bytes as they are.
-pub(crate) fn text(bytes: &[u8]) {
-    io::write_all(STDOUT_FILENO, bytes);
-}
-
-// A number in decimal, with text before it.
-fn named(name: &[u8], n: usize) {
-    text(name);
-    io::print_decimal(STDOUT_FILENO, n as u64);
-}
-
-// The same for a number of 32 bits.
-fn named_u32(name: &[u8], n: u32) {
-    named(name, n as usize);
-}
+use std::io;
 
 // How much is lent.
-pub(crate) fn lent(numbers: usize, places: usize) {
-    named(b"lent ", numbers);
-    named(b" ", places);
+pub(crate) fn lent(rt: &impl Print, numbers: usize, places: usize) -> io::Result<()> {
+    print!(rt; "lent {numbers} {places}")
 }
 
 // A refusal by its number.
-fn refused(n: usize) {
-    named(b"refused ", n);
+fn refused(rt: &impl Print, n: usize) -> io::Result<()> {
+    print!(rt; "refused {n}")
 }
 
-pub(crate) fn refusal(r: Refusal) {
-    refused(refusals::number(r) as usize);
+pub(crate) fn refusal(rt: &impl Print, r: Refusal) -> io::Result<()> {
+    refused(rt, refusals::number(r) as usize)
 }
 
 // An event as its four numbers.
-fn event(tag: usize, kind: usize, start: usize, end: usize) {
-    named(b"", tag);
-    named(b" ", kind);
-    named(b" ", start);
-    named(b" ", end);
+fn event(rt: &impl Print, tag: usize, kind: usize, start: usize, end: usize) -> io::Result<()> {
+    print!(rt; "{tag} {kind} {start} {end}")
 }
 
 // An event that so many were said before.
-pub(crate) fn next_event(before: usize, e: Event) {
+pub(crate) fn next_event(rt: &impl Print, before: usize, e: Event) -> io::Result<()> {
     if 0 < before {
-        text(b" ; ");
+        print!(rt; " ; ")?;
     }
     event(
+        rt,
         e.tag as usize,
         e.kind as usize,
         e.span.start.0 as usize,
         e.span.end.0 as usize,
-    );
+    )
 }
 
 // What a call answered, in words.
-pub(crate) fn told(answer: Told) {
+pub(crate) fn told(rt: &impl Print, answer: Told) -> io::Result<()> {
     let tag = answer.tag;
     match tag {
-        0 => text(b"none"),
-        1 => event(answer.first, answer.second, answer.third, answer.fourth),
-        3 => named(b"bookmark ", answer.first),
-        4 => text(b"ok"),
-        _ => refused(answer.first),
+        0 => print!(rt; "none"),
+        1 => event(rt, answer.first, answer.second, answer.third, answer.fourth),
+        3 => print!(rt; "bookmark {}", answer.first),
+        4 => print!(rt; "ok"),
+        _ => refused(rt, answer.first),
     }
 }
 
 // A span as document 01 writes it.
-fn span(name: &[u8], s: Span) {
-    named_u32(name, s.start.0);
-    named_u32(b"..", s.end.0);
+fn span(rt: &impl Print, name: &str, s: Span) -> io::Result<()> {
+    print!(rt; " {name} {}..{}", s.start.0, s.end.0)
 }
 
 // The numbers of the stream's record.
-fn counts(slots: usize, places: usize, front: usize, count: usize, opened: usize) {
-    named(b"E ", slots);
-    named(b" D ", places);
-    named(b" front ", front);
-    named(b" count ", count);
-    named(b" opened ", opened);
+fn counts(
+    rt: &impl Print,
+    slots: usize,
+    places: usize,
+    front: usize,
+    count: usize,
+    opened: usize,
+) -> io::Result<()> {
+    print!(rt; "E {slots} D {places} front {front} count {count} opened {opened}")
 }
 
 // The stream's record.
-fn stream(s: Stream) {
-    counts(s.slots, s.places, s.front.0, s.count, s.opened);
-    named_u32(b" bookmarks ", s.bookmarks);
-    span(b" last ", s.last);
-    span(b" gone ", s.gone);
+fn stream(rt: &impl Print, s: Stream) -> io::Result<()> {
+    counts(rt, s.slots, s.places, s.front.0, s.count, s.opened)?;
+    print!(rt; " bookmarks {}", s.bookmarks)?;
+    span(rt, "last", s.last)?;
+    span(rt, "gone", s.gone)?;
     if s.popped {
-        text(b" popped");
+        print!(rt; " popped")?;
     }
+    Ok(())
 }
 
 // The numbers of the event slots.
-fn room(numbers: &[u32]) {
-    text(b" room");
+fn room(rt: &impl Print, numbers: &[u32]) -> io::Result<()> {
+    print!(rt; " room")?;
     let mut i: usize = 0;
     while i < numbers.len() {
-        named_u32(b" ", numbers[i]);
+        print!(rt; " {}", numbers[i])?;
         i += 1;
     }
+    Ok(())
 }
 
 // The open places.
-fn opens(places: &[usize]) {
-    text(b" opens");
+fn opens(rt: &impl Print, places: &[usize]) -> io::Result<()> {
+    print!(rt; " opens")?;
     let mut i: usize = 0;
     while i < places.len() {
-        named(b" ", places[i]);
+        print!(rt; " {}", places[i])?;
         i += 1;
     }
+    Ok(())
 }
 
 // A stream and its rooms.
-pub(crate) fn view(s: Stream, numbers: &[u32], places: &[usize]) -> Stream {
-    stream(s);
-    room(numbers);
-    opens(places);
-    s
+pub(crate) fn view(
+    rt: &impl Print,
+    s: Stream,
+    numbers: &[u32],
+    places: &[usize],
+) -> io::Result<Stream> {
+    stream(rt, s)?;
+    room(rt, numbers)?;
+    opens(rt, places)?;
+    Ok(s)
 }

@@ -3,6 +3,7 @@ use crate::lent::Lent;
 use crate::{forge, same, say};
 use lines::Asked;
 use refusals::DoneAnswer;
+use std::io;
 use window::Window;
 
 // The number of a call, by the line's first letter.
@@ -20,60 +21,86 @@ fn number(letter: u8) -> u32 {
 }
 
 // Opens a window.
-fn open(src: &[u8], room: &[u32]) -> Window {
+fn open(rt: &impl Print, src: &[u8], room: &[u32]) -> io::Result<Window> {
     let given = Window::open(src, room);
     let answer = given.answer;
     match answer {
-        DoneAnswer::Done => say::text(b"done"),
-        DoneAnswer::Refused(r) => say::refused(refusals::number(r)),
+        DoneAnswer::Done => print!(rt; "done")?,
+        DoneAnswer::Refused(r) => say::refused(rt, refusals::number(r))?,
     }
-    given.window
+    Ok(given.window)
 }
 
 // The token n after the current one, for every n: a call by numbers has one of 32 bits.
-fn peek(w: Window, src: &[u8], room: &mut [u32], n: usize) -> Window {
+fn peek(rt: &impl Print, w: Window, src: &[u8], room: &mut [u32], n: usize) -> io::Result<Window> {
     let given = w.peek_token(src, room, n);
     let answer = given.answer;
-    say::token_answer(answer);
-    same::remark(w, given.window)
+    say::token_answer(rt, answer)?;
+    same::remark(rt, w, given.window)
 }
 
 // Every other call.
-fn call(w: Window, asked: Asked, src: &[u8], room: &mut [u32]) -> Window {
+fn call(
+    rt: &impl Print,
+    w: Window,
+    asked: Asked,
+    src: &[u8],
+    room: &mut [u32],
+) -> io::Result<Window> {
     let n = lines::narrow(asked.first);
     let given = window_scripts::call(w, src, room, number(asked.letter), n);
-    say::told(given.told);
-    same::remark(w, given.window)
+    say::told(rt, given.told)?;
+    same::remark(rt, w, given.window)
 }
 
 // Makes the call that a line asks for, by its first letter.
-fn make(w: Window, asked: Asked, src: &[u8], room: &mut [u32]) -> Window {
+fn make(
+    rt: &impl Print,
+    w: Window,
+    asked: Asked,
+    src: &[u8],
+    room: &mut [u32],
+) -> io::Result<Window> {
     let letter = asked.letter;
     match letter {
-        b'o' => open(src, room),
-        b'v' => say::view(w, room),
-        b'p' => peek(w, src, room, asked.first),
-        _ => call(w, asked, src, room),
+        b'o' => open(rt, src, room),
+        b'v' => say::view(rt, w, room),
+        b'p' => peek(rt, w, src, room, asked.first),
+        _ => call(rt, w, asked, src, room),
     }
 }
 
 // The same with so many numbers of the room, where it has them.
-fn make_in(w: Window, asked: Asked, src: &[u8], room: &mut [u32], numbers: usize) -> Window {
+fn make_in(
+    rt: &impl Print,
+    w: Window,
+    asked: Asked,
+    src: &[u8],
+    room: &mut [u32],
+    numbers: usize,
+) -> io::Result<Window> {
     if room.len() < numbers {
-        return w;
+        return Ok(w);
     }
-    say::text(b": ");
-    make(w, asked, src, &mut room[0..numbers])
+    print!(rt; ": ")?;
+    make(rt, w, asked, src, &mut room[0..numbers])
 }
 
 // The same with what is lent, where the text has the source.
-fn make_with(w: Window, asked: Asked, lent: Lent, text: &[u8], room: &mut [u32]) -> Window {
+fn make_with(
+    rt: &impl Print,
+    w: Window,
+    asked: Asked,
+    lent: Lent,
+    text: &[u8],
+    room: &mut [u32],
+) -> io::Result<Window> {
     let from = lent.from;
     let to = lent.to;
     if to < from || text.len() < to {
-        return w;
+        return Ok(w);
     }
-    make_in(w, asked, &text[from..to], room, lent.numbers)
+    make_in(rt, w, asked, &text[from..to], room, lent.numbers)
 }
 
 // Whether a line with this first letter asks for a call.
@@ -85,10 +112,17 @@ fn is_call(letter: u8) -> bool {
 }
 
 // The window after a line, by its first letter: a field of it is set, or a call is made.
-pub(crate) fn after(w: Window, asked: Asked, lent: Lent, text: &[u8], room: &mut [u32]) -> Window {
+pub(crate) fn after(
+    rt: &impl Print,
+    w: Window,
+    asked: Asked,
+    lent: Lent,
+    text: &[u8],
+    room: &mut [u32],
+) -> io::Result<Window> {
     let letter = asked.letter;
     if is_call(letter) {
-        return make_with(w, asked, lent, text, room);
+        return make_with(rt, w, asked, lent, text, room);
     }
-    forge::set(w, asked)
+    Ok(forge::set(w, asked))
 }

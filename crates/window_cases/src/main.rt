@@ -17,7 +17,8 @@ mod same;
 mod say;
 
 use lent::Lent;
-use libc::STDIN_FILENO;
+use std::io;
+use std::io::Read;
 use window::Window;
 
 // Room for 20,000 bytes of cases, and the bytes that no line has.
@@ -38,7 +39,7 @@ fn unopened() -> Window {
 }
 
 // Runs each line of the cases, which are the first n bytes of the text. At first there is no source and no room.
-fn run(text: &[u8], n: usize, room: &mut [u32])
+fn run(rt: &impl Print, text: &[u8], n: usize, room: &mut [u32]) -> io::Result<()>
     requires { n ≤ length text.now }
 {
     let mut window = unopened();
@@ -52,17 +53,23 @@ fn run(text: &[u8], n: usize, room: &mut [u32])
         let end = lines::next_byte(text, at, b'\n');
         let next = end + 1;
         let line = &text[at..end];
-        say::text(line);
+        rt.write_all(line)?;
         let asked = lines::ask(line);
         lent = lent::after(lent, asked, at, end, room);
-        window = calls::after(window, asked, lent, text, room);
-        say::text(b"\n");
+        window = calls::after(rt, window, asked, lent, text, room)?;
+        println!(rt)?;
         at = next;
     }
+    Ok(())
 }
 
-fn main() {
-    let mut text = bytes();
-    let n = io::read_full(STDIN_FILENO, &mut text);
-    run(&text, n, &mut [7; 18]);
+// The cases stand before the bytes that no line has.
+fn main(rt: HostRuntime) -> io::Result<()> {
+    let all = bytes();
+    let mut text = Vec::new(rt.alloc());
+    let n = rt.reader().take(85541).read_to_end(&mut text)?;
+    if n < all.len() {
+        text.extend_from_slice(&all[n..])?;
+    }
+    run(&rt, &text, n, &mut [7; 18])
 }

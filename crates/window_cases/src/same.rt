@@ -1,6 +1,6 @@
 // Whether two windows are the same, in each field and in each of the 64 places for bookmarks.
-use crate::say;
 use reader::Reader;
+use std::io;
 use tokens::{Mode, TokenIndex};
 use window::Window;
 
@@ -42,11 +42,11 @@ fn counts(a: Window, b: Window) -> bool {
 }
 
 // Says where the window that a call gave back is the one handed in, and hands it on.
-pub(crate) fn remark(before: Window, after: Window) -> Window {
+pub(crate) fn remark(rt: &impl Print, before: Window, after: Window) -> io::Result<Window> {
     let marks = before.bookmarks;
     let others = after.bookmarks;
     if counts(before, after) & readers(before.reader, after.reader) & places(marks, others) {
-        say::text(b", same window");
+        print!(rt; ", same window")?;
     }
-    after
+    Ok(after)
 }
