@@ -1,0 +1,2 @@
+-- What several proofs of the crate cite.
+pub mod Bases
