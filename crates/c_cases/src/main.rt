@@ -12,12 +12,8 @@ mod calls;
 mod cases;
 mod say;
 
-use libc::STDIN_FILENO;
-
-// Room for all cases.
-fn room() -> [u8; 10000] {
-    [0; 10000]
-}
+use std::io;
+use std::io::Read;
 
 // A source of one byte more than the most, which would be one token.
 fn spaces() -> [u8; 65536] {
@@ -25,17 +21,19 @@ fn spaces() -> [u8; 65536] {
 }
 
 // Says each line of the text, and runs its case.
-fn run(text: &[u8], far: &[u8]) {
+fn run(rt: &impl Print, text: &[u8], far: &[u8]) -> io::Result<()> {
     let mut at = 0;
     while at < text.len() {
         let end = lines::next_byte(text, at, b'\n');
-        cases::run(&text[at..end], far);
+        cases::run(rt, &text[at..end], far)?;
         at = end + 1;
     }
+    Ok(())
 }
 
-fn main() {
-    let mut text = room();
-    let n = io::read_full(STDIN_FILENO, &mut text);
-    run(&text[..n], &spaces());
+// Of the cases at most 10,000 bytes are read.
+fn main(rt: HostRuntime) -> io::Result<()> {
+    let mut text = Vec::new(rt.alloc());
+    rt.reader().take(10000).read_to_end(&mut text)?;
+    run(&rt, &text, &spaces())
 }

@@ -1,63 +1,59 @@
 // What is written to standard output.
-use libc::STDOUT_FILENO;
-
-// Bytes as they are.
-pub(crate) fn text(bytes: &[u8]) {
-    io::write_all(STDOUT_FILENO, bytes);
-}
+use std::io;
 
 // The last 30 bytes, which of the longest listing are two lines; all where there are no more.
-pub(crate) fn end(bytes: &[u8]) {
+pub(crate) fn end(rt: &impl Print, bytes: &[u8]) -> io::Result<()> {
     let n = bytes.len();
     if n <= 30 {
-        return text(bytes);
+        return rt.write_all(bytes);
     }
-    text(&bytes[n - 30..n]);
+    rt.write_all(&bytes[n - 30..n])
 }
 
 // A number behind a space.
-pub(crate) fn long(n: u64) {
-    text(b" ");
-    io::print_decimal(STDOUT_FILENO, n);
+pub(crate) fn long(rt: &impl Print, n: u64) -> io::Result<()> {
+    print!(rt; " {n}")
 }
 
 // The same of a number of 32 bits.
-pub(crate) fn short(n: u32) {
-    long(n as u64);
+pub(crate) fn short(rt: &impl Print, n: u32) -> io::Result<()> {
+    long(rt, n as u64)
 }
 
 // What a function answers.
-pub(crate) fn answer(status: u32) {
-    text(b"\nanswer");
-    short(status);
+pub(crate) fn answer(rt: &impl Print, status: u32) -> io::Result<()> {
+    print!(rt; "\nanswer")?;
+    short(rt, status)
 }
 
 // The number at a place of either kind, where there is one.
-fn item(shorts: &[u32], longs: &[usize], at: usize) {
+fn item(rt: &impl Print, shorts: &[u32], longs: &[usize], at: usize) -> io::Result<()> {
     if at < shorts.len() {
-        short(shorts[at]);
+        short(rt, shorts[at])?;
     }
     if at < longs.len() {
-        long(longs[at] as u64);
+        long(rt, longs[at] as u64)?;
     }
+    Ok(())
 }
 
 // Numbers of either kind that are lent, n of them.
-fn numbers(shorts: &[u32], longs: &[usize], n: usize) {
-    text(b"\nlent");
+fn numbers(rt: &impl Print, shorts: &[u32], longs: &[usize], n: usize) -> io::Result<()> {
+    print!(rt; "\nlent")?;
     let mut at = 0;
     while at < n {
-        item(shorts, longs, at);
+        item(rt, shorts, longs, at)?;
         at += 1;
     }
+    Ok(())
 }
 
 // Numbers of 32 bits that are lent.
-pub(crate) fn shorts(all: &[u32]) {
-    numbers(all, &[], all.len());
+pub(crate) fn shorts(rt: &impl Print, all: &[u32]) -> io::Result<()> {
+    numbers(rt, all, &[], all.len())
 }
 
 // Numbers of 64 bits that are lent.
-pub(crate) fn longs(all: &[usize]) {
-    numbers(&[], all, all.len());
+pub(crate) fn longs(rt: &impl Print, all: &[usize]) -> io::Result<()> {
+    numbers(rt, &[], all, all.len())
 }

@@ -10,18 +10,13 @@ mod record;
 mod sequences;
 mod tokenizer;
 
-use libc::{STDERR_FILENO, STDIN_FILENO};
 use outcomes::{Outcome, Tally};
+use std::io;
+use std::io::Read;
 
-// Room for all records.
-fn text_room() -> [u8; 600000] {
-    [0u8; 600000]
-}
-
-// Whether standard input is at its end. `read_full` stops there, but at an error and at a full buffer too.
-fn at_end() -> bool {
-    let mut next = [0u8; 1];
-    libc::read(STDIN_FILENO, &mut next) == 0
+// Room for the source of a record.
+fn source_room() -> [u8; 4096] {
+    [0u8; 4096]
 }
 
 // Replays the record of the source: the text has its numbers at the place, and behind the first ones `;` where it is one of calls.
@@ -39,7 +34,7 @@ fn replay_on(text: &[u8], at: usize, src: &[u8]) -> Outcome {
 
 // Replays the record at the place. A last line with no LF was cut off, and is none.
 fn replay_record(text: &[u8], at: usize) -> Outcome {
-    let mut src = io::buffer();
+    let mut src = source_room();
     let source = lines::decode(text, at, &mut src);
     let len = source.len;
     if len > 4096 {
@@ -49,26 +44,22 @@ fn replay_record(text: &[u8], at: usize) -> Outcome {
 }
 
 // Replays each line of the text, and names those that differ.
-fn replay_lines(text: &[u8]) -> Tally {
+fn replay_lines(rt: &impl Print, text: &[u8]) -> io::Result<Tally> {
     let mut tally = outcomes::none();
     let mut at = 0;
     while at < text.len() {
         let end = lines::next_byte(text, at, b'\n');
-        tally = outcomes::counted(tally, replay_record(text, at));
+        tally = outcomes::counted(rt, tally, replay_record(text, at))?;
         at = end + 1;
     }
-    tally
+    Ok(tally)
 }
 
-fn main() {
-    let mut text = text_room();
-    let n = io::read_full(STDIN_FILENO, &mut text);
-    if !at_end() {
-        io::write_all(
-            STDERR_FILENO,
-            b"recorded: standard input cannot be read whole\n",
-        );
-        return;
+// Standard input is to have at most 600,000 bytes: one more is read, so that one that goes on is not taken for whole.
+fn main(rt: HostRuntime) -> io::Result<()> {
+    let mut text = Vec::new(rt.alloc());
+    match rt.reader().take(600001).read_to_end(&mut text) {
+        Ok(n) if n <= 600000 => outcomes::write(&rt, replay_lines(&rt, &text)?),
+        _ => eprintln!(rt; "recorded: standard input cannot be read whole"),
     }
-    outcomes::write(replay_lines(&text[..n]));
 }

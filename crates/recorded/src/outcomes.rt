@@ -1,5 +1,5 @@
 // How the records were answered, counted and said.
-use libc::STDOUT_FILENO;
+use std::io;
 
 // How a record was answered: how many calls it has, how many answers came before a refusal 2 in the small rooms, and whether all are right.
 #[derive(Clone, Copy)]
@@ -37,41 +37,33 @@ pub(crate) fn none() -> Tally {
     }
 }
 
-// Writes a number and what follows it.
-fn say(n: usize, what: &[u8]) {
-    io::print_decimal(STDOUT_FILENO, n as u64);
-    io::write_all(STDOUT_FILENO, what);
-}
-
 // Names a line that differs.
-fn write_differs(line: usize) {
-    io::write_all(STDOUT_FILENO, b"line ");
-    say(line, b" differs\n");
+fn write_differs(rt: &impl Print, line: usize) -> io::Result<()> {
+    println!(rt; "line {line} differs")
 }
 
 // Counts a record more, and names its line where it differs.
-pub(crate) fn counted(tally: Tally, one: Outcome) -> Tally {
-    let records = std::num::wrapping_add_usize(tally.records, 1);
+pub(crate) fn counted(rt: &impl Print, tally: Tally, one: Outcome) -> io::Result<Tally> {
+    let records = tally.records.wrapping_add(1);
     let mut differ = tally.differ;
     if !one.right {
-        write_differs(records);
-        differ = std::num::wrapping_add_usize(differ, 1);
+        write_differs(rt, records)?;
+        differ = differ.wrapping_add(1);
     }
-    Tally {
+    Ok(Tally {
         records,
-        calls: std::num::wrapping_add_usize(tally.calls, one.calls),
-        small: std::num::wrapping_add_usize(tally.small, one.small),
+        calls: tally.calls.wrapping_add(one.calls),
+        small: tally.small.wrapping_add(one.small),
         differ,
-    }
+    })
 }
 
 // The last lines.
-pub(crate) fn write(tally: Tally) {
-    say(
-        tally.small,
-        b" answers with 0 to 8 slots before refusal 2\n",
-    );
-    say(tally.records, b" records, ");
-    say(tally.calls, b" calls, ");
-    say(tally.differ, b" differ\n");
+pub(crate) fn write(rt: &impl Print, tally: Tally) -> io::Result<()> {
+    let small = tally.small;
+    let records = tally.records;
+    let calls = tally.calls;
+    let differ = tally.differ;
+    println!(rt; "{small} answers with 0 to 8 slots before refusal 2")?;
+    println!(rt; "{records} records, {calls} calls, {differ} differ")
 }

@@ -74,12 +74,12 @@ fn answered_in(slots: usize, src: &[u8], script: &[u32], recorded: &[u32; 4096])
 
 // Replays a sequence with 0 to 8 slots, and adds up the answers.
 fn answered_in_few(src: &[u8], script: &[u32], recorded: &[u32; 4096]) -> InRoom {
-    let mut answers = 0;
+    let mut answers: usize = 0;
     let mut right = true;
     let mut slots = 0;
     while slots <= 8 {
         let one = answered_in(slots, src, script, recorded);
-        answers = std::num::wrapping_add_usize(answers, one.answers);
+        answers = answers.wrapping_add(one.answers);
         right = right & one.right;
         slots += 1;
     }
