@@ -1,15 +1,10 @@
 -- One spelling of 11 bytes before the other, as `keyword_of` has them.
 -- Assumes nothing.
-use borrow.Author.Rules.{rules}
 use Rattle.tokens.specs.Tokens.{words_1}
 use Rattle.words.specs.Lengths.{as_long}
 use Rattle.words.specs.Choosing.{none, before, decided}
-use Rattle.words.proofs.keywords.of_eleven.Statement.{statement}
-use Rattle.words.proofs.keywords.of_eleven.Tie as tie
+use Rattle.words.proofs.keywords.of_eleven.Goals as goal
 
-returns : tie.Need-returns
+pub returns : goal.returns
 unfolding as_long words_1
 returns c = decided (as_long 11 words_1) (before c.pick.ensures none)
-
-pub of-eleven-spec : {M : Type 1} → statement M
-of-eleven-spec = tie.close (tie.spec (λ c. search rules) (λ c κs. search rules) returns)
