@@ -1,7 +1,6 @@
 -- The statuses tell found, none and each refusal apart, since 0 and 100 are no refusal's. And what the code makes of an answer is what the
 -- reply tells, since the reply has that answer. Assumes nothing.
 use Rattle.std.specs.Prelude.{ℕ, ◌≡◌, refl}
-
 use Rattle.std.proofs.Common.{sym, ap, ◌∙◌, arith}
 use Rattle.refusals.specs.declared.Refusal.{Refusal}
 use Rattle.refusals.specs.declared.Refusal.TheVariants.{NotAsOpened}
