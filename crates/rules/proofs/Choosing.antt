@@ -1,7 +1,6 @@
 -- From the longest match of a mode to the token: each law is one clause of the definition, read at a place of a source.
 -- Assumes nothing.
 use Prim.Native.Nat.{ℕ, zero, suc, ◌+◌, ◌≤◌, ◌<◌, max}
-
 use Rattle.std.specs.Prelude.{◌≡◌, List, [], ◌∷◌, length, drop}
 use Rattle.std.proofs.Math.Path.{refl, sym, ap}
 use Rattle.std.proofs.Common.{◌∙◌, arith, length-drop}

@@ -1,7 +1,6 @@
 -- What is left of a mode's rules at a first byte: a short list for each family of bytes, in the order of the rules. Each line is
 -- computed; `suffice` carries it to a place of a source. Assumes nothing.
 use Rattle.std.specs.Prelude.{ℕ, ◌≡◌, true, false, List, [], ◌∷◌, ◌++◌, map, drop}
-
 use Rattle.std.proofs.Math.Path.{refl}
 use Rattle.std.proofs.Common.{sym, ap, ◌∙◌}
 use borrow.Author.Tests.{ne_eqb}

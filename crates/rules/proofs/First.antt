@@ -1,7 +1,6 @@
 -- Which rules can start with which byte. That all others are dead at a first byte is one test, computed over the 256 bytes and the
 -- rules of each mode; a rule that is dead there matches nothing, so it may be left out. Past the end none matches. Assumes nothing.
 use Rattle.std.specs.Prelude.{ℕ, suc, ◌≤◌, ◌<◌, ◌≡◌, refl, Bool, true, false, cond, ◌&&◌, ◌||◌, List, [], ◌∷◌, map, length, drop, leb, eqb}
-
 use Rattle.std.proofs.Common.{sym, ap, ◌∙◌, ⊎_elim, arith, drop-cons}
 use Rattle.std.proofs.lemmas.Bool.{false≢true}
 use Rattle.std.proofs.Math.Decide.{dec_lt}
@@ -50,6 +49,7 @@ narrow ks (r ∷ rs) b s e =
     gone : is_nothing (deriv b r.pattern) ≡ true → best rs (b ∷ s) ≡ best (only ks rs) (b ∷ s)
         → better (hit r.kind (longest r.pattern (b ∷ s))) (best rs (b ∷ s)) ≡ best (only ks rs) (b ∷ s)
     gone q h = ap (λ (n : ℕ). better (hit r.kind n) (best rs (b ∷ s))) (dead_longest r.pattern b s q) ∙ h
+
     go : (t : Bool) → (is_nothing (deriv b r.pattern) || t) ≡ true → best rs (b ∷ s) ≡ best (only ks rs) (b ∷ s)
         → better (hit r.kind (longest r.pattern (b ∷ s))) (best rs (b ∷ s)) ≡ best (keep t r (only ks rs)) (b ∷ s)
     go true q h = ap (better (hit r.kind (longest r.pattern (b ∷ s)))) h

@@ -1,7 +1,6 @@
 -- Words in normal mode: a keyword where the whole word is one, else IDENT. Every keyword is a text of IDENT, so none is longer than
 -- the word; one that is as long stands first in the list and wins, and one that is shorter loses. Assumes nothing.
 use Rattle.std.specs.Prelude.{ℕ, zero, suc, ◌+◌, ◌-◌, ◌≤◌, ◌<◌, ◌≡◌, refl, Bool, true, false, cond, ◌&&◌, length, get_or, drop, take, leb, eqb}
-
 use Rattle.std.proofs.Common.{sym, ◌∙◌, subst, arith, length-drop, take_all, eqb-true, leb-true}
 use Rattle.std.proofs.Math.Path.{ap}
 use Rattle.std.proofs.lemmas.Bool.{false≢true, eqb-false}
@@ -54,6 +53,7 @@ longest_least p w xs m e = go (longest_right p xs)
   where
     front : Matches p (take (length w) xs)
     front = subst (Matches p) (sym (take_prefix w xs e)) m
+
     go : {n : ℕ} → Right p xs n → length w ≤ n
     go (is_none a) = absurd (a.never (length w) (prefix_long w xs e) front)
     go {n} (is_longest a) = near (dec_lt n (length w))
@@ -96,7 +96,6 @@ module _ (p : Pat) (xs : List ℕ) where
       ∙ ap (λ (l : ℕ). better (hit w.kind l) (hit (keyword_of ws (take n xs)) n)) (literal_longest w.bytes xs)
       ∙ one_word w.kind (keyword_of ws (take n xs)) (length w.bytes) (prefix w.bytes xs) a.0.0 (longest_least p w.bytes xs a.0.1)
       ∙ ap (λ (t : Bool). hit (cond t w.kind (keyword_of ws (take n xs))) n) (sym (same_take n xs w.bytes (longest_le p xs)))
-
 
 -- The words of list 1: each is a text of IDENT, by a test that is computed.
 

@@ -1,7 +1,6 @@
 -- Lists of rules put together: the longest match of both is the better of the two. `better` keeps the first of the longest, so it
 -- does not matter how it is grouped. Assumes nothing.
 use Rattle.std.specs.Prelude.{ℕ, ◌+◌, ◌-◌, ◌≤◌, ◌<◌, ◌≡◌, refl, Bool, true, false, cond, List, [], ◌∷◌, ◌++◌, length, drop, leb}
-
 use Rattle.std.proofs.Common.{sym, ◌∙◌, drop_of_length-le, le-leb, leb-true, leb-false}
 use Rattle.std.proofs.Math.Path.{ap}
 use Rattle.std.proofs.Math.Bool.{and-false}

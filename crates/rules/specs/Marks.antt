@@ -1,7 +1,6 @@
 -- The words behind `$`, `#`, `@` and `!`: a mark, and then a tail, which may be empty. One law for the four.
 -- Assumes nothing.
 use Rattle.std.specs.Prelude.{ℕ, ◌+◌, ◌-◌, ◌<◌, ◌≡◌, refl, true, false, List, [], ◌∷◌, length, get_or, drop}
-
 use Prim.Native.String.{String}
 use Rattle.std.proofs.Common.{sym, ap, ◌∙◌, true≢false, arith}
 use Rattle.patterns.specs.Utf8.{Class}

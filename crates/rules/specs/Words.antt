@@ -1,7 +1,6 @@
 -- Words in normal mode: a keyword where the whole word is one, else IDENT. Every keyword is a text of IDENT, so none is longer than
 -- the word; one that is as long stands first in the list and wins, and one that is shorter loses. Assumes nothing.
 use Rattle.std.specs.Prelude.{ℕ, zero, suc, ◌+◌, ◌-◌, ◌≤◌, ◌<◌, ◌≡◌, refl, Bool, true, false, cond, ◌&&◌, length, get_or, drop, take, leb, eqb}
-
 use Rattle.std.proofs.Common.{sym, ◌∙◌, subst, arith, length-drop, take_all, eqb-true, leb-true}
 use Rattle.std.proofs.Math.Path.{ap}
 use Rattle.std.proofs.lemmas.Bool.{false≢true, eqb-false}
