@@ -1,0 +1,15 @@
+-- The word ends where its tail does, and its kind is the keyword's or IDENT: what `word_hit` asks for.
+-- Assumes nothing.
+use Rattle.std.proofs.Common.{rules}
+use Rattle.rules.proofs.Words.{tail_within, word_hit}
+use Rattle.rules.proofs.normal_mode.word.Goals as goal
+
+pub slice_bounds-word-end : goal.slice_bounds-word-end
+slice_bounds-word-end c =
+    let a = c.args in
+    tail_within a.src.now a.at c.word_tail-end.result c.requires.0 c.word_tail-end.ensures
+
+pub returns : goal.returns
+returns c =
+    let a = c.args in
+    word_hit a.src.now a.at c.word_tail-end.result c.keyword-kind.result c.requires.0 c.requires.1 c.word_tail-end.ensures c.keyword-kind.ensures
