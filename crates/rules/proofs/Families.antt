@@ -1,19 +1,17 @@
 -- What is left of a mode's rules at a first byte: a short list for each family of bytes, in the order of the rules. Each line is
 -- computed; `suffice` carries it to a place of a source. Assumes nothing.
-use Rattle.std.specs.Prelude.{ℕ, ◌≡◌, true, false, List, [], ◌∷◌, ◌++◌, map, drop}
+use Rattle.std.specs.Prelude.{ℕ, ◌≡◌, true, false, List, [], ◌∷◌, map, drop}
 use Rattle.std.proofs.Math.Path.{refl}
 use Rattle.std.proofs.Common.{sym, ap, ◌∙◌}
 use borrow.Author.Tests.{ne_eqb}
-use Rattle.patterns.specs.Pattern.{byte, char}
 use Rattle.tokens.specs.declared.Mode.{Mode}
 use Rattle.tokens.specs.declared.Mode.TheVariants.{Normal, HexPattern, HexJump}
-use Rattle.tokens.specs.Kinds.{PATTERN_LENGTH, IDENT, FLOAT_LIT, INTEGER_LIT, STRING_LIT, REGEXP, COMMENT, WHITESPACE, NEWLINE, HEX_BYTE}
-use Rattle.tokens.specs.Unicode.{digits_16}
-use Rattle.tokens.specs.Tokens.{Rule, rule, spelled, tables_1, words_1, operators, dec, word_start, pattern_word, identifier, float, integer, string, multi_line_string, regexp, block_comment, line_comment, blanks, newlines, hex_byte, pattern_operators, jump_integer, jump_operators}
+use Rattle.tokens.specs.Kinds.{IDENT, FLOAT_LIT, INTEGER_LIT, WHITESPACE, NEWLINE, HEX_BYTE}
+use Rattle.tokens.specs.Tokens.{Rule, rule, spelled, tables_1, words_1, operators, dec, word_start, hex_byte, pattern_operators, jump_integer, jump_operators}
 use Rattle.tokens.specs.Scan.{best, rules}
 use Rattle.rules.specs.First.{only, spacing, hex_start, kinds_of, first_kinds, First}
 use Rattle.rules.proofs.First.{by_first}
-use Rattle.rules.specs.Families.{Suffice, bang_rules, comment_rules, number_rules, quote_rules, slash_rules, spacing_rules, word_rules}
+use Rattle.rules.specs.Families.{Suffice, number_rules, spacing_rules, word_rules}
 
 -- The families.
 

@@ -1,10 +1,9 @@
 -- Which rules can start with which byte. That all others are dead at a first byte is one test, computed over the 256 bytes and the
 -- rules of each mode; a rule that is dead there matches nothing, so it may be left out. Past the end none matches. Assumes nothing.
-use Rattle.std.specs.Prelude.{ℕ, suc, ◌≤◌, ◌<◌, ◌≡◌, refl, Bool, true, false, cond, ◌&&◌, ◌||◌, List, [], ◌∷◌, map, length, drop, leb, eqb}
+use Rattle.std.specs.Prelude.{ℕ, suc, ◌≤◌, ◌<◌, ◌≡◌, refl, Bool, true, false, cond, ◌||◌, List, [], ◌∷◌, length, drop}
 use Rattle.std.proofs.Common.{sym, ap, ◌∙◌, ⊎_elim, arith, drop-cons}
 use Rattle.std.proofs.lemmas.Bool.{false≢true}
 use Rattle.std.proofs.Math.Decide.{dec_lt}
-use Rattle.patterns.specs.Utf8.{Class}
 use Rattle.patterns.specs.Pattern.{Pat, nothing, empty, byte, char, part, seq, alt, star, nullable, is_nothing, deriv, walk, longest}
 use Rattle.patterns.proofs.Bools.{and_first, and_second, or_cases}
 use Rattle.patterns.proofs.Walk.{dead}
@@ -12,12 +11,11 @@ use Rattle.patterns.specs.Apart.{each_byte}
 use Rattle.patterns.proofs.Apart.{at_byte}
 use Rattle.tokens.specs.declared.Mode.{Mode}
 use Rattle.tokens.specs.declared.Mode.TheVariants.{Normal, HexPattern, HexJump}
-use Rattle.tokens.specs.Kinds.{PATTERN_IDENT, PATTERN_COUNT, PATTERN_OFFSET, PATTERN_LENGTH, IDENT, FLOAT_LIT, INTEGER_LIT, STRING_LIT, REGEXP, COMMENT, WHITESPACE, NEWLINE, HEX_BYTE}
-use Rattle.tokens.specs.Tokens.{Rule, Spelling, tables_1, words_1, operators, pattern_operators, jump_operators, one_of, dec, word_start, hex_or_mark}
+use Rattle.tokens.specs.Tokens.{Rule, tables_1, one_of}
 use Rattle.tokens.specs.Scan.{hit, better, best, rules}
 use Rattle.places.specs.Signs.{Byte}
 use Rattle.rules.proofs.Better.{past_end}
-use Rattle.rules.specs.First.{First, alone, first_kinds, hex_start, keep, kinds_of, only, other_kinds, others_dead, spacing}
+use Rattle.rules.specs.First.{First, alone, first_kinds, keep, only, others_dead}
 
 -- The rules of some kinds, and whether the others are dead at a byte.
 
@@ -76,3 +74,7 @@ by_first m {s} {at} {b} p = go (dec_lt at (length s))
     go (no h) =
         let e : length s ≤ at = omega arith in
         sym (past_end s at (rules tables_1 m) e) ∙ past_end s at (only (first_kinds m b) (rules tables_1 m)) e
+
+-- what the code knows of the byte that it looks at
+pub first_byte : {s : List ℕ} {at b : ℕ} → Byte s at b → b < 256 → First s at b
+first_byte p h = record { byte = p; small = h }

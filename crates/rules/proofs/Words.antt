@@ -9,7 +9,7 @@ use mathlib.Core.List.{List, [], ◌∷◌, ◌++◌, map}
 use Rattle.std.proofs.Math.Decide.{dec_lt}
 use Rattle.std.proofs.Math.Dec.{eqb-zero-suc, eqb-suc-zero, eqb-suc-suc}
 use Rattle.patterns.specs.Utf8.{Class}
-use Rattle.patterns.specs.Pattern.{Pat, byte, seq, literal, Matches, follow, if_in, deriv, walk, longest}
+use Rattle.patterns.specs.Pattern.{Pat, byte, seq, literal, Matches, follow, if_in, deriv, longest}
 use Rattle.patterns.proofs.Bools.{and_first, and_second}
 use Rattle.patterns.specs.Lists.{All, each}
 use Rattle.patterns.proofs.Lists.{each_right}

@@ -1,20 +1,13 @@
 -- Which rules can start with which byte. That all others are dead at a first byte is one test, computed over the 256 bytes and the
 -- rules of each mode; a rule that is dead there matches nothing, so it may be left out. Past the end none matches. Assumes nothing.
-use Rattle.std.specs.Prelude.{ℕ, suc, ◌≤◌, ◌<◌, ◌≡◌, refl, Bool, true, false, cond, ◌&&◌, ◌||◌, List, [], ◌∷◌, map, length, drop, leb, eqb}
-use Rattle.std.proofs.Common.{sym, ap, ◌∙◌, ⊎_elim, arith, drop-cons}
-use Rattle.std.proofs.lemmas.Bool.{false≢true}
-use Rattle.std.proofs.Math.Decide.{dec_lt}
+use Rattle.std.specs.Prelude.{ℕ, ◌<◌, Bool, true, false, cond, ◌&&◌, ◌||◌, List, [], ◌∷◌, map, leb, eqb}
 use Rattle.patterns.specs.Utf8.{Class}
-use Rattle.patterns.specs.Pattern.{Pat, nothing, empty, byte, char, part, seq, alt, star, nullable, is_nothing, deriv, walk, longest}
-use Rattle.patterns.proofs.Bools.{and_first, and_second, or_cases}
-use Rattle.patterns.proofs.Walk.{dead}
-use Rattle.patterns.specs.Apart.{each_byte}
-use Rattle.patterns.proofs.Apart.{at_byte}
+use Rattle.patterns.specs.Pattern.{is_nothing, deriv}
 use Rattle.tokens.specs.declared.Mode.{Mode}
 use Rattle.tokens.specs.declared.Mode.TheVariants.{Normal, HexPattern, HexJump}
 use Rattle.tokens.specs.Kinds.{PATTERN_IDENT, PATTERN_COUNT, PATTERN_OFFSET, PATTERN_LENGTH, IDENT, FLOAT_LIT, INTEGER_LIT, STRING_LIT, REGEXP, COMMENT, WHITESPACE, NEWLINE, HEX_BYTE}
 use Rattle.tokens.specs.Tokens.{Rule, Spelling, tables_1, words_1, operators, pattern_operators, jump_operators, one_of, dec, word_start, hex_or_mark}
-use Rattle.tokens.specs.Scan.{hit, better, best, rules}
+use Rattle.tokens.specs.Scan.{rules}
 use Rattle.places.specs.Signs.{Byte}
 
 -- The rules of some kinds, and whether the others are dead at a byte.

@@ -1,6 +1,6 @@
 -- The text ends where the run of plain characters does; where that is empty, after one byte.
 -- Assumes nothing.
-use Rattle.std.proofs.Common.{ℕ, ap, arith, rules}
+use Rattle.std.proofs.Common.{ℕ, ap, arith}
 use Rattle.tokens.specs.Kinds.{UNKNOWN}
 use Rattle.tokens.specs.declared.Mode.TheVariants.{Normal}
 use Rattle.tokens.specs.Scan.{chosen}

@@ -1,6 +1,6 @@
 -- What stands at the front decides, as in the definition.
 -- Assumes nothing.
-use Rattle.std.proofs.Common.{sym, ◌∙◌, drop, rules}
+use Rattle.std.proofs.Common.{sym, ◌∙◌, drop}
 use Rattle.tokens.specs.Tokens.{tables_1}
 use Rattle.rules.proofs.Choosing.{broken_byte, unknown_text}
 use Rattle.rules.proofs.unmatched.Goals as goal

@@ -1,6 +1,6 @@
 -- A rule that ends where it starts matches nothing; any other is better than none.
 -- Assumes nothing.
-use Rattle.std.proofs.Common.{◌-◌, sym, arith, rules}
+use Rattle.std.proofs.Common.{◌-◌, sym, arith}
 use Rattle.tokens.specs.Scan.{hit}
 use Rattle.rules.proofs.Better.{better_first, better_none}
 use Rattle.rules.proofs.hits.one.Goals as goal

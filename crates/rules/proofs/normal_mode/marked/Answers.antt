@@ -1,6 +1,5 @@
 -- The hit is that of one rule, which ends where the tail does.
 -- Assumes nothing.
-use Rattle.std.proofs.Common.{rules}
 use Rattle.rules.proofs.Marks.{marked_hit}
 use Rattle.rules.proofs.normal_mode.marked.Goals as goal
 

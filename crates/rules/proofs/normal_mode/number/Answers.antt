@@ -1,6 +1,6 @@
 -- Both ends are those of the rules, and the float stands first.
 -- Assumes nothing.
-use Rattle.std.proofs.Common.{[], ◌∷◌, rules}
+use Rattle.std.proofs.Common.{[], ◌∷◌}
 use Rattle.tokens.specs.Kinds.{FLOAT_LIT, INTEGER_LIT}
 use Rattle.tokens.specs.Tokens.{rule, float, integer}
 use Rattle.rules.proofs.Better.{of_rule, of_both}

@@ -1,6 +1,6 @@
 -- Both ends are those of the rules, in the order of the rules.
 -- Assumes nothing.
-use Rattle.std.proofs.Common.{[], ◌∷◌, rules}
+use Rattle.std.proofs.Common.{[], ◌∷◌}
 use Rattle.tokens.specs.Kinds.{STRING_LIT}
 use Rattle.tokens.specs.Tokens.{rule, string, multi_line_string}
 use Rattle.rules.proofs.Better.{of_rule, of_both}

@@ -1,6 +1,6 @@
 -- The three ends are those of the rules, in the order of the rules.
 -- Assumes nothing.
-use Rattle.std.proofs.Common.{[], ◌∷◌, rules}
+use Rattle.std.proofs.Common.{[], ◌∷◌}
 use Rattle.patterns.specs.Pattern.{byte}
 use Rattle.tokens.specs.Kinds.{REGEXP, COMMENT}
 use Rattle.tokens.specs.Tokens.{rule, regexp, block_comment, line_comment}

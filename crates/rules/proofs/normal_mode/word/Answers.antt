@@ -1,6 +1,5 @@
 -- The word ends where its tail does, and its kind is the keyword's or IDENT: what `word_hit` asks for.
 -- Assumes nothing.
-use Rattle.std.proofs.Common.{rules}
 use Rattle.rules.proofs.Words.{tail_within, word_hit}
 use Rattle.rules.proofs.normal_mode.word.Goals as goal
 
