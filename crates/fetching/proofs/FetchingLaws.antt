@@ -1,7 +1,6 @@
 -- Laws of fetching. To store one token and then those ahead of the reader behind it is to store all; how many tokens are left says
 -- whether those ahead are more than are spare; and the cases of the answer. Each is one scan, or one look at the tests. Assumes nothing.
 use Rattle.std.specs.Prelude.{ℕ, suc, ◌+◌, ◌-◌, ◌≤◌, ◌<◌, ◌≡◌, refl, Bool, true, false, not, ◌&&◌, List, length, leb, ltb}
-
 use Rattle.std.proofs.Common.{sym, ap, ◌∙◌, arith, leb-true, le-leb, le-ltb, lt-ltb, ltb-true, ltb-false}
 use Rattle.std.proofs.lemmas.Bool.{lt-leb}
 use Rattle.patterns.proofs.Bools.{and_first, and_second}
@@ -70,7 +69,6 @@ module _ {src : List ℕ} {r₀ : Reader} {room₀ : List ℕ} {i₀ n₀ : ℕ}
           same = rw e (sym (storing_more src r x next o n l room i) ∙ h.same);
         }
 
-
 module _ {src : List ℕ} {r₀ : Reader} {n : ℕ} {r : Reader} {k : ℕ} (h : Counting src r₀ n r k) where
   pub counting_end : Ends src r → false ≡ ltb n (length (rest src r₀))
   counting_end e =
@@ -125,7 +123,6 @@ module _ (src : List ℕ) (r : Reader) (first : TokenIndex) where
       let i : leb r.place.0 (length src) ≡ true = and_second (leb (length src) source_limit) (leb r.place.0 (length src)) s in
       let p : leb first.0 r.place.0 ≡ true = and_second (sound src r) (leb first.0 r.place.0) (sym e) in
       (record { limit = leb-true (length src) source_limit l; inside = leb-true r.place.0 (length src) i }, leb-true first.0 r.place.0 p)
-
 
 -- The cases of the answer.
 module _ (src : List ℕ) (r : Reader) (room : List ℕ) (first : TokenIndex) (need spare : ℕ) where

@@ -1,7 +1,6 @@
 -- Laws of fetching. To store one token and then those ahead of the reader behind it is to store all; how many tokens are left says
 -- whether those ahead are more than are spare; and the cases of the answer. Each is one scan, or one look at the tests. Assumes nothing.
 use Rattle.std.specs.Prelude.{ℕ, suc, ◌+◌, ◌-◌, ◌≤◌, ◌<◌, ◌≡◌, refl, Bool, true, false, not, ◌&&◌, List, length, leb, ltb}
-
 use Rattle.std.proofs.Common.{sym, ap, ◌∙◌, arith, leb-true, le-leb, le-ltb, lt-ltb, ltb-true, ltb-false}
 use Rattle.std.proofs.lemmas.Bool.{lt-leb}
 use Rattle.patterns.proofs.Bools.{and_first, and_second}

@@ -1,7 +1,6 @@
 -- One scan after the other. At the end no token is ahead of a reader; else the token that a scan finds, and those that are ahead of
 -- the reader behind it. From the scanner's promise and the laws of the definition's scan. Assumes nothing.
-use Prim.Native.Nat.{ℕ, zero, suc, min, ◌+◌, ◌≤◌, ◌<◌, zero-le}
-
+use Prim.Native.Nat.{ℕ, zero, suc, min, ◌+◌, ◌≤◌, zero-le}
 use Rattle.std.specs.Prelude.{◌≡◌, List, [], ◌∷◌, length}
 use Rattle.std.proofs.Math.Path.{refl}
 use Rattle.std.proofs.Common.{ap, arith, le-leb}

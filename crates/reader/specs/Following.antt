@@ -1,20 +1,12 @@
 -- One scan after the other. At the end no token is ahead of a reader; else the token that a scan finds, and those that are ahead of
 -- the reader behind it. From the scanner's promise and the laws of the definition's scan. Assumes nothing.
-use Prim.Native.Nat.{ℕ, zero, suc, min, ◌+◌, ◌≤◌, ◌<◌, zero-le}
-
+use Prim.Native.Nat.{ℕ, ◌≤◌, ◌<◌}
 use Rattle.std.specs.Prelude.{◌≡◌, List, [], ◌∷◌, length}
-use Rattle.std.proofs.Math.Path.{refl}
-use Rattle.std.proofs.Common.{ap, arith, le-leb}
 use Rattle.tokens.specs.declared.Token.{Token}
-use Rattle.tokens.specs.declared.Scanned.{Scanned}
 use Rattle.tokens.specs.declared.Scanned.TheVariants as scanned
 use Rattle.tokens.specs.Tokens.{tables_1}
-use Rattle.tokens.specs.Scan.{scan, onto, list_from}
-use Rattle.tokens.specs.ScanLaws.{Step}
-use Rattle.tokens.proofs.ScanLaws.{scan_found}
-use Rattle.tokens.proofs.ListLaws.{tile_count, enough, list_step, list_tiles, first_count, first_ends}
+use Rattle.tokens.specs.Scan.{scan, list_from}
 use Rattle.reader.specs.declared.Reader.{Reader}
-use Rattle.reader.specs.declared.Scan.{Scan}
 use Rattle.reader.specs.Reading.{source_limit, Answer, start, open_of, moved, scan_of, scan_told, Ahead, ahead}
 use Rattle.reader.specs.Reading as reading
 

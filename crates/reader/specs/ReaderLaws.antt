@@ -1,22 +1,11 @@
 -- The cases of opening a reader: ready or refused. Those of a scan: refused, or the definition's scan, which is at the end or finds a
 -- token; the tests of 24 come first. And no two answers are told alike, so that the promises leave no choice. Assumes nothing.
-use Rattle.std.specs.Prelude.{ℕ, ◌≤◌, ◌<◌, ◌≡◌, refl, List, length, leb}
-
-use Rattle.std.proofs.Common.{sym, ap, ◌∙◌, arith, leb-true, leb-false, le-leb}
-use Rattle.std.proofs.lemmas.Bool.{lt-leb}
-use Rattle.patterns.proofs.Bools.{by_test}
-use Rattle.patterns.specs.Determined.{Once}
-use Rattle.patterns.proofs.Determined.{once}
-use Rattle.refusals.specs.RefusalLaws.{read_refusal, read_back}
-use Rattle.tokens.specs.Tokens.{tables_1}
-use Rattle.tokens.specs.Scan.{scan}
-use Rattle.tokens.proofs.ScanLaws.{scan_end}
-use Rattle.reader.specs.declared.Reader.{Reader}
+use Rattle.refusals.specs.RefusalLaws.{read_refusal}
 use Rattle.reader.specs.declared.Opened.{Opened}
 use Rattle.reader.specs.declared.Opened.TheVariants as of_opened
 use Rattle.reader.specs.declared.Scan.{Scan}
 use Rattle.reader.specs.declared.Scan.TheVariants as of_scan
-use Rattle.reader.specs.Reading.{source_limit, Answer, ready, end, found, refused, start, open_of, moved, scan_of, opened_told, scan_told, entered}
+use Rattle.reader.specs.Reading.{Answer, ready, end, found, refused, start}
 
 -- An answer can be read back from what it is told by. Not every value is told by an opening, nor by a scan: the others are read as any.
 abbrev pub opened_read : Answer → Opened
