@@ -16,4 +16,7 @@ pub returns : goal.returns
 unfolding digits
 returns c =
     absent _ _ c.args.src.now c.args.at _
-    (elim c.else-at-src.branch [ else-at-src-via-then-at-src+else-is_digit w ↦ λ l. sym w.is_digit.ensures ∙ w.if-is_digit.false | else-at-src-via-else-at-src w ↦ λ l. absurd (omega arith) ])
+    (elim c.else-at-src.branch [
+      | else-at-src-via-then-at-src+else-is_digit w ↦ λ l. sym w.is_digit.ensures ∙ w.if-is_digit.false
+      | else-at-src-via-else-at-src w ↦ λ l. absurd (omega arith)
+    ])

@@ -14,7 +14,10 @@ loop-n-init c = (search rules, rw add-zero)
 
 pub returns-then-src-i : goal.returns-then-src-i
 returns-then-src-i c =
-    elim c.then-src-i.branch [ then-src-i-via-then-src-i w ↦ prefix_short _ _ _ _ c.loop-n-test.true w.if-src-i.true | then-src-i-via-else-src-i+then-src-i-2 w ↦ prefix_no _ _ _ _ c.loop-n-test.true w.if-src-i.false w.if-src-i-2.true ]
+    elim c.then-src-i.branch [
+      | then-src-i-via-then-src-i w ↦ prefix_short _ _ _ _ c.loop-n-test.true w.if-src-i.true
+      | then-src-i-via-else-src-i+then-src-i-2 w ↦ prefix_no _ _ _ _ c.loop-n-test.true w.if-src-i.false w.if-src-i-2.true
+    ]
     ∙ c.loop-n.invariant.1
 
 pub loop-n-preserved : goal.loop-n-preserved

@@ -8,7 +8,10 @@ use Rattle.texts.proofs.plain.Goals.{then-b-close-via-then-b-close, then-b-close
 
 pub returns-then-b-close : goal.returns-then-b-close
 returns-then-b-close c =
-    elim c.then-b-close.branch [ then-b-close-via-then-b-close w ↦ simp (w.if-b-close.true, plain_close) | then-b-close-via-else-b-close+then-b-eq92 w ↦ simp (w.if-b-eq92.true, plain_bare) ]
+    elim c.then-b-close.branch [
+      | then-b-close-via-then-b-close w ↦ simp (w.if-b-close.true, plain_close)
+      | then-b-close-via-else-b-close+then-b-eq92 w ↦ simp (w.if-b-eq92.true, plain_bare)
+    ]
 
 pub returns-then-lines : goal.returns-then-lines
 unfolding plain

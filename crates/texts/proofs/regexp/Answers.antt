@@ -34,7 +34,10 @@ pub returns-then-has_byte : goal.returns-then-has_byte
 unfolding deriv
 returns-then-has_byte c =
     let o = opened c.args.src.now c.args.at (sym c.has_byte.ensures.told ∙ c.if-not-has_byte.false) in
-    elim c.then-has_byte.branch [ then-has_byte-via-then-has_byte w ↦ no_first o 42 refl (sym c.has_byte-2.ensures.told ∙ w.if-has_byte.true) | then-has_byte-via-else-has_byte+then-has_byte-2 w ↦ no_first o 47 refl (sym w.has_byte-else-has_byte.ensures.told ∙ w.if-has_byte-2.true) ]
+    elim c.then-has_byte.branch [
+      | then-has_byte-via-then-has_byte w ↦ no_first o 42 refl (sym c.has_byte-2.ensures.told ∙ w.if-has_byte.true)
+      | then-has_byte-via-else-has_byte+then-has_byte-2 w ↦ no_first o 47 refl (sym w.has_byte-else-has_byte.ensures.told ∙ w.if-has_byte-2.true)
+    ]
 
 pub returns-then-not-has_byte-2 : goal.returns-then-not-has_byte-2
 returns-then-not-has_byte-2 c =
