@@ -1,11 +1,10 @@
-use Rattle.std.proofs.Common.{◌≡◌, sym, ◌∙◌, false, ◌&&◌, ⊎_elim, arith, leb, rules}
+use Rattle.std.specs.Prelude.{eqb}
+use Rattle.std.proofs.Common.{ℕ, ◌<◌, ◌≡◌, sym, ◌∙◌, Bool, true, false, ◌&&◌, ◌⊎◌, ⊎_elim, arith, leb, le-leb, ne_eqb, rules}
+use Rattle.std.proofs.lemmas.Bool.{lt-leb}
 use Rattle.patterns.proofs.Walk.{start, prefix_within, text_then, text_yes, text_no}
 use Rattle.utf8.specs.Runs.{char_within}
 use Rattle.tokens.specs.Tokens.{ascii}
 use Rattle.comments.specs.Comments.{inside, comment_over, comment_on, comment_end, comment_char, comment_broken}
-use Rattle.std.specs.Prelude.{eqb}
-use Rattle.std.proofs.Common.{true, ◌<◌, ◌⊎◌, ℕ, Bool, le-leb, ne_eqb}
-use Rattle.std.proofs.lemmas.Bool.{lt-leb}
 use Rattle.comments.proofs.block.Goals as goal
 
 -- a byte that is read as it is

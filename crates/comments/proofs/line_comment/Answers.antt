@@ -1,4 +1,4 @@
-use Rattle.std.proofs.Common.{ne_eqb, refl, sym, ◌∙◌, arith, rules}
+use Rattle.std.proofs.Common.{refl, sym, ◌∙◌, arith, ne_eqb, rules}
 use Rattle.patterns.proofs.Walk.{start, step, stop, over, free, prefix_within, text_then, text_yes, text_no}
 use Rattle.tokens.specs.Tokens.{ascii, none_of}
 use Rattle.places.specs.Places.{reads_yes, reads_no, run_reads}

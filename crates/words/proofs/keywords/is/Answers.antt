@@ -4,7 +4,7 @@ use Rattle.words.specs.Same.{alike_start, alike_done, alike_no, alike_yes}
 use Rattle.words.proofs.keywords.is.Goals as goal
 
 pub returns-then-word-text : goal.returns-then-word-text
-returns-then-word-text c = same_differs c.args.word.now c.args.text.now c.if-word-text.true
+returns-then-word-text c = same_differs c.args.word.now c.args.text.now (λ e. omega arith)
 
 pub loop-i-init : goal.loop-i-init
 loop-i-init c = alike_start
