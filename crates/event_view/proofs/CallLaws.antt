@@ -1,7 +1,6 @@
 -- What holds of a call's reply where it is refused and where it is not holds of it; and what every call keeps, calls keep.
 -- By induction on the grounds, and on the calls. Assumes nothing.
-use Rattle.std.specs.Prelude.{ℕ, ◌≡◌, Bool, false}
-
+use Rattle.std.specs.Prelude.{ℕ, Bool}
 use mathlib.Core.List.{List, [], ◌∷◌}
 use Rattle.patterns.proofs.Bools.{by_test}
 use Rattle.patterns.specs.Lists.{All}

@@ -1,7 +1,6 @@
 -- The record over calls: events and open nodes keep within their slots and places, and the open nodes are the Begins that no End closes.
 -- A pushed End closes the innermost; truncate cuts off what balances; pop is taken only where all is closed. Assumes nothing.
 use Rattle.std.specs.Prelude.{ℕ, ◌+◌, ◌-◌, ◌≤◌, ◌<◌, ◌≡◌, true, List, [], ◌∷◌, ◌++◌, set, take, eqb, ltb}
-
 use Rattle.std.proofs.Math.Path.{refl, sym}
 use Rattle.std.proofs.Common.{ap, ◌∙◌, true≢false, arith, length-append, length-take, length-set}
 use Rattle.std.proofs.Math.Bool.{false}
@@ -19,6 +18,7 @@ use Rattle.event_record.proofs.Unclosed.{unclosed_cut, unclosed_rest, unclosed_m
 use Rattle.event_view.specs.CallLaws.{Clear}
 use Rattle.event_view.proofs.CallLaws.{either_way, always}
 use Rattle.event_view.specs.Nesting.{Nested, Sized}
+use Rattle.event_view.proofs.Sizes.{sized}
 
 some : (n : ℕ) → eqb n 0 ≡ false → 0 < n
 some n e = let d : ¬ (n ≡ 0) = eqb-false n 0 e in omega arith
@@ -27,14 +27,9 @@ pub opened_sized : (e d : ℕ) → Sized e d (opened e d)
 opened_sized e d = record { slots_same = refl; places_same = refl; within = omega arith; nodes = omega arith }
 
 module _ (e d : ℕ) (r : Record) (z : Sized e d r) where
-  -- slots and places are never changed
-  sized : (q : Record) → q.slots ≡ r.slots → q.places ≡ r.places
-      → length q.events + length q.opens ≤ e → length q.opens ≤ d → Sized e d q
-  sized q s p h k = record { slots_same = s ∙ z.slots_same; places_same = p ∙ z.places_same; within = h; nodes = k }
-
   more_sized : (y : Event) (x : Span) → ltb (spare r) 1 ≡ false → Sized e d (pushed y (lasting x r))
   more_sized y x f =
-      sized (pushed y (lasting x r)) refl refl
+      sized e d r z (pushed y (lasting x r)) refl refl
       (omega (arith, length-append r.events (y ∷ []), z.slots_same, ltb-false (spare r) 1 f)) z.nodes
 
   begun_sized : (k : ℕ) → leb r.places (length r.opens) ≡ false → ltb (spare r) 2 ≡ false → Sized e d (begun k r)
@@ -42,14 +37,14 @@ module _ (e d : ℕ) (r : Record) (z : Sized e d r) where
       let y = event_of begin_tag k (span r.last.end.0 r.last.end.0) in
       let a : length (r.events ++ (y ∷ [])) ≡ length r.events + 1 = length-append r.events (y ∷ []) in
       let b : length (r.opens ++ (length r.events ∷ [])) ≡ length r.opens + 1 = length-append r.opens (length r.events ∷ []) in
-      sized (begun k r) refl refl (omega (arith, z.slots_same, ltb-false (spare r) 2 g))
+      sized e d r z (begun k r) refl refl (omega (arith, z.slots_same, ltb-false (spare r) 2 g))
       (omega (arith, z.places_same, leb-false r.places (length r.opens) f))
 
   -- one node less
   outer_sized : (es : List Event) → 0 < length r.opens → length es ≤ length r.events + 1 → Sized e d (holding es (outer r) r)
   outer_sized es f h =
       let l : length (outer r) ≡ length r.opens - 1 = length-take (length r.opens - 1) r.opens ∙ omega arith in
-      sized (holding es (outer r) r) refl refl (omega (arith, z.within)) (omega (arith, z.nodes))
+      sized e d r z (holding es (outer r) r) refl refl (omega (arith, z.within)) (omega (arith, z.nodes))
 
   ended_sized : (k : ℕ) → 0 < length r.opens → Sized e d (ended k r)
   ended_sized k f =
@@ -64,11 +59,11 @@ module _ (e d : ℕ) (r : Record) (z : Sized e d r) where
       outer_sized (take n r.events) f (omega (arith, length-take n r.events))
 
   cut_sized : (p : ℕ) → Sized e d (cut p r)
-  cut_sized p = sized (cut p r) refl refl (omega (arith, z.within, length-take p r.events)) z.nodes
+  cut_sized p = sized e d r z (cut p r) refl refl (omega (arith, z.within, length-take p r.events)) z.nodes
 
   popped_sized : (es : List Event) → length es ≤ length r.events → Sized e d (first_popped es r).after
   popped_sized [] h = z
-  popped_sized (y ∷ ys) h = sized (first_popped (y ∷ ys) r).after refl refl (omega (arith, z.within)) z.nodes
+  popped_sized (y ∷ ys) h = sized e d r z (first_popped (y ∷ ys) r).after refl refl (omega (arith, z.within)) z.nodes
 
   pub taken_sized : (c : Call) → Clear (grounds c r) → Sized e d (taken c r).after
   unfolding taken grounds
@@ -79,9 +74,9 @@ module _ (e d : ℕ) (r : Record) (z : Sized e d r) where
   taken_sized end_with_error f =
       let o = some (length r.opens) f.0 in
       by_test (eqb (inner r + 1) (length r.events)) (λ q. rw q (dropped_sized o)) (λ q. rw q (ended_sized error_kind o))
-  taken_sized bookmark f = sized (marked (r.bookmarks + 1) r) refl refl z.within z.nodes
+  taken_sized bookmark f = sized e d r z (marked (r.bookmarks + 1) r) refl refl z.within z.nodes
   taken_sized (truncate p) f = cut_sized p.0
-  taken_sized (remove_bookmark p) f = sized (marked (r.bookmarks - 1) r) refl refl z.within z.nodes
+  taken_sized (remove_bookmark p) f = sized e d r z (marked (r.bookmarks - 1) r) refl refl z.within z.nodes
   taken_sized pop f = popped_sized r.events (omega arith)
 
   pub answered_sized : (c : Call) → Sized e d (answered c r).after

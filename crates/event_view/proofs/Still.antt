@@ -1,10 +1,9 @@
 -- A refused call changes neither the stream nor the lent rooms, whatever they hold: a ground that holds leaves the state, and where none
 -- holds the answer is no refusal. Assumes nothing.
 use Rattle.std.specs.Prelude.{ℕ, ◌≡◌, refl, not, List, [], ◌∷◌}
-
 use Rattle.std.proofs.Common.{subst}
 use Rattle.event_record.specs.declared.Event.{Event}
-use Rattle.event_record.specs.Record.{Call, push_token, push_error, begin, end, end_with_error, bookmark, truncate, remove_bookmark, pop, Answer, done, none, position, event, refused, Reply, Record, first_popped, taken, grounds}
+use Rattle.event_record.specs.Record.{Call, push_token, push_error, begin, end, end_with_error, bookmark, truncate, remove_bookmark, pop, refused, Reply, Record, first_popped, taken, grounds}
 use Rattle.events.specs.Stream.{State, view, laid, sound, answered, step}
 use Rattle.event_view.proofs.CallLaws.{either_way}
 use Rattle.event_view.specs.Still.{Given}
@@ -38,4 +37,3 @@ module _ (c : Call) (s : State) (n : ℕ) where
   pub refused_still : (step c s).answer ≡ refused n → (step c s).after ≡ s
   unfolding step
   refused_still = either_way refused s (answered c s) Still ((not (sound s), 24) ∷ []) (λ m e. refl) (λ f. answered_still)
-

@@ -1,7 +1,6 @@
 -- From opening, over any calls, the stream answers as the plain list does: `commutes` call by call, since the open nodes of the list are
 -- the Begins that no End closes, so that no later call is refused by 24. Assumes nothing.
 use Rattle.std.specs.Prelude.{ℕ, ◌+◌, ◌-◌, ◌≤◌, ◌<◌, ◌≡◌, refl, Bool, false, List, [], ◌∷◌, eqb}
-
 use Rattle.std.proofs.Math.Path.{sym, ap}
 use Rattle.std.proofs.Common.{subst, ◌∙◌, arith, get_or-take}
 use Rattle.std.proofs.Math.Nat.{zero-add}

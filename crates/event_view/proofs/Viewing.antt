@@ -1,30 +1,19 @@
 -- A stream's calls are the plain list's; `commutes` at a call is that call's law. A list laid into the rooms is seen there again: its
 -- events have slots of their own, its open places stand first, and it has room, since the record keeps within its sizes. Assumes nothing.
-use Rattle.std.specs.Prelude.{◌≤◌, ◌<◌, ◌≡◌, length}
-
+use Rattle.std.specs.Prelude.{◌<◌, ◌≡◌}
 use Rattle.std.proofs.Math.Path.{refl}
 use Rattle.std.proofs.Common.{arith}
-use Rattle.rooms.proofs.Stores.{take_sets}
 use Rattle.event_record.specs.Record.{Call, Answer, done, none, position, event, refused, Reply, reply, Record, taken, grounds}
 use Rattle.event_record.specs.Record as of_list
-use Rattle.event_room.specs.Room.{slots_in}
-use Rattle.event_room.specs.RingLaws.{slot_inside, listed_written}
+use Rattle.event_room.specs.RingLaws.{slot_inside}
 use Rattle.events.specs.Stream.{State, view, front_after, laid, answered, step}
 use Rattle.events.specs.SoundLaws.{Fit, fit_sound, answered_now}
 use Rattle.events.specs.HoldLaws.{view_count, view_opened}
 use Rattle.event_view.proofs.CallLaws.{both_ways, any_number}
 use Rattle.event_view.specs.Nesting.{Sized}
 use Rattle.event_view.proofs.Nesting.{taken_sized}
+use Rattle.event_view.proofs.Laid.{view_laid}
 use Rattle.event_view.specs.Viewing.{Same}
-
--- A list laid into the rooms is the list that is seen.
-pub view_laid : (s : State) (a : Answer) (r : Record)
-    → (0 < length r.events → (front_after s.stream a).0 < slots_in (length s.room))
-    → length r.events ≤ slots_in (length s.room) → length r.opens ≤ length s.opens
-    → view (laid s (reply a r)).after ≡ r
-unfolding view laid
-view_laid s a r f h k =
-    rw (listed_written s.room (front_after s.stream a) 0 r.events f (omega arith), take_sets s.opens r.opens k)
 
 module _ (s : State) (k : Fit s) where
   pub front_after_inside : (a : Answer) → 0 < s.stream.slots → (front_after s.stream a).0 < s.stream.slots

@@ -6,9 +6,8 @@ use Rattle.event_room.proofs.read.Goals as goal
 
 pub returns-then-at-slots : goal.returns-then-at-slots
 returns-then-at-slots c =
-    let s = c in
-    let a = s.args in
-    c.read_at.ensures ∙ read_inside a.room.now a.at s.slots.ensures c.if-at-slots.true
+    let a = c.args in
+    c.read_at.ensures ∙ read_inside a.room.now a.at c.slots.ensures c.if-at-slots.true
 
 pub returns-else-at-slots : goal.returns-else-at-slots
 returns-else-at-slots c =

@@ -6,10 +6,8 @@ use Rattle.event_room.proofs.write.Goals as goal
 
 pub returns-then-at-slots : goal.returns-then-at-slots
 returns-then-at-slots c =
-    let t = c in
-    let s = t in
-    let a = s.args in
-    c.write_at.ensures ∙ write_inside a.room.now a.at s.slots.ensures t.if-at-slots.true a.event
+    let a = c.args in
+    c.write_at.ensures ∙ write_inside a.room.now a.at c.slots.ensures c.if-at-slots.true a.event
 
 pub returns-else-at-slots : goal.returns-else-at-slots
 returns-else-at-slots c =

@@ -4,6 +4,4 @@ use Rattle.events.proofs.Stream.close.Goals as goal
 
 pub returns : goal.returns
 returns c =
-    let q = c in
-    let p = q in
-    (c.counted.ensures, rw (q.put-2.ensures, p.put.ensures, p.span_of-span.ensures))
+    (c.counted.ensures, rw (c.put-2.ensures, c.put.ensures, c.span_of-span.ensures))

@@ -12,6 +12,4 @@ returns-then-self-eq0 c = rw c.refused.ensures (nothing_open _ c.requires end re
 pub returns : goal.returns
 returns c =
     let e = c.close.ensures in
-    let i = c in
-    let s = i in
-    rw (e.0, e.1, c.event_at-begin.ensures) (node_ended _ s.requires (omega (arith, i.if-self-eq0.false)))
+    rw (e.0, e.1, c.event_at-begin.ensures) (node_ended _ c.requires (omega (arith, c.if-self-eq0.false)))

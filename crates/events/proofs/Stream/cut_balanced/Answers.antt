@@ -6,9 +6,8 @@ use Rattle.events.proofs.Stream.cut_balanced.Goals as goal
 
 pub returns-then-is_balanced : goal.returns-then-is_balanced
 returns-then-is_balanced c =
-    let i = c in
     rw (c.counted.ensures, c.last_token-last.ensures)
-    (λ opens k. cut_short _ k _ (omega arith) (omega arith) i.is_balanced.ensures i.if-is_balanced.true)
+    (λ opens k. cut_short _ k _ (omega arith) (omega arith) c.is_balanced.ensures c.if-is_balanced.true)
 
 pub returns-else-is_balanced : goal.returns-else-is_balanced
 returns-else-is_balanced c =

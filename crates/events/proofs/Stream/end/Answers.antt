@@ -8,8 +8,7 @@ close_node-requires c = fit _ c.is_sound.ensures c.if-is_sound.true
 
 pub returns-then-is_sound : goal.returns-then-is_sound
 returns-then-is_sound c =
-    let i = c in
-    passed_on _ _ i.is_sound.ensures i.if-is_sound.true c.close_node.ensures
+    passed_on _ _ c.is_sound.ensures c.if-is_sound.true c.close_node.ensures
 
 pub returns-else-is_sound : goal.returns-else-is_sound
 returns-else-is_sound c = rw c.refused.ensures (not_sound _ _ c.is_sound.ensures c.if-is_sound.false)

@@ -11,19 +11,14 @@ returns-then-self-eq0 c = rw c.refused.ensures (nothing_open _ c.requires end_wi
 
 pub overflow_add-inner : goal.overflow_add-inner
 overflow_add-inner c =
-    let s = c in
-    omega (arith, s.requires.inner_inside (omega (arith, c.if-self-eq0.false)))
+    omega (arith, c.requires.inner_inside (omega (arith, c.if-self-eq0.false)))
 
 pub returns-then-inner-self : goal.returns-then-inner-self
 returns-then-inner-self c =
-    let i = c in
-    let s = i in
-    rw c.counted.ensures (node_dropped _ s.requires (omega (arith, i.if-self-eq0.false)) i.if-inner-self.true)
+    rw c.counted.ensures (node_dropped _ c.requires (omega (arith, c.if-self-eq0.false)) c.if-inner-self.true)
 
 pub returns : goal.returns
 returns c =
     let e = c.close.ensures in
-    let i = c in
-    let s = i in
     rw (e.0, e.1, c.event_at-begin.ensures)
-    (node_failed _ s.requires (omega (arith, i.if-self-eq0.false)) i.if-inner-self.false)
+    (node_failed _ c.requires (omega (arith, c.if-self-eq0.false)) c.if-inner-self.false)

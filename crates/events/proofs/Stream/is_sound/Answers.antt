@@ -11,10 +11,8 @@ is_begun-requires c =
 
 pub returns-then-self-slots : goal.returns-then-self-slots
 returns-then-self-slots c =
-    let w = c in
-    c.is_begun.ensures ∙ in_parts _ w.slots-slots.ensures w.is_within.ensures c.if-self-slots.true
+    c.is_begun.ensures ∙ in_parts _ c.slots-slots.ensures c.is_within.ensures c.if-self-slots.true
 
 pub returns-else-self-slots : goal.returns-else-self-slots
 returns-else-self-slots c =
-    let w = c in
-    in_parts _ w.slots-slots.ensures w.is_within.ensures c.if-self-slots.false
+    in_parts _ c.slots-slots.ensures c.is_within.ensures c.if-self-slots.false

@@ -9,14 +9,9 @@ returns-then-self c = rw c.refused.ensures (too_deep _ (search rules) _ (omega a
 
 pub returns-then-spare-lt2 : goal.returns-then-spare-lt2
 returns-then-spare-lt2 c =
-    let p = c in
-    let s = p in
-    rw c.refused-then-spare-lt2.ensures (no_two_slots _ s.requires _ (omega arith) (omega (arith, p.spare.ensures)))
+    rw c.refused-then-spare-lt2.ensures (no_two_slots _ c.requires _ (omega arith) (omega (arith, c.spare.ensures)))
 
 pub returns : goal.returns
 returns c =
-    let w = c in
-    let i = w in
-    let s = i in
-    rw (c.counted.ensures, w.put.ensures)
-    (node_opened _ s.requires _ i.if-self.false (omega (arith, i.spare.ensures, i.if-spare-lt2.false)))
+    rw (c.counted.ensures, c.put.ensures)
+    (node_opened _ c.requires _ c.if-self.false (omega (arith, c.spare.ensures, c.if-spare-lt2.false)))

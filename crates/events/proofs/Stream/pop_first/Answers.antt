@@ -9,10 +9,8 @@ returns-then-self c = rw c.not_popped.ensures (λ opens k. not_settled _ k c.if-
 
 pub returns-then-self-eq0 : goal.returns-then-self-eq0
 returns-then-self-eq0 c =
-    let i = c in
-    λ opens k. nothing_popped _ k i.if-self.false (omega arith)
+    λ opens k. nothing_popped _ k c.if-self.false (omega arith)
 
 pub returns : goal.returns
 returns c =
-    let i = c in
-    rw (c.passed.ensures, c.read-event.ensures) (λ opens k. first_gone _ k i.if-self.false (omega arith))
+    rw (c.passed.ensures, c.read-event.ensures) (λ opens k. first_gone _ k c.if-self.false (omega arith))

@@ -9,11 +9,8 @@ returns-then-span c = rw c.refused.ensures (λ opens k. no_such_span _ k _ _ c.i
 
 pub returns-then-spare-lt1 : goal.returns-then-spare-lt1
 returns-then-spare-lt1 c =
-    let p = c in
-    rw c.refused-then-spare-lt1.ensures (λ opens k. no_slot _ k _ _ p.if-span.false (omega (arith, p.spare.ensures)))
+    rw c.refused-then-spare-lt1.ensures (λ opens k. no_slot _ k _ _ c.if-span.false (omega (arith, c.spare.ensures)))
 
 pub returns-else-spare-lt1 : goal.returns-else-spare-lt1
 returns-else-spare-lt1 c =
-    let w = c in
-    let p = w in
-    rw (c.counted.ensures, w.put.ensures) (λ opens k. one_more _ k _ _ p.if-span.false (omega (arith, p.spare.ensures)))
+    rw (c.counted.ensures, c.put.ensures) (λ opens k. one_more _ k _ _ c.if-span.false (omega (arith, c.spare.ensures)))

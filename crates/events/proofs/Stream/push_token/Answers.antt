@@ -6,8 +6,7 @@ use Rattle.events.proofs.Stream.push_token.Goals as goal
 
 pub returns-then-is_sound : goal.returns-then-is_sound
 returns-then-is_sound c =
-    let i = c in
-    token_pushed _ _ _ i.is_sound.ensures i.if-is_sound.true (c.push.ensures _)
+    token_pushed _ _ _ c.is_sound.ensures c.if-is_sound.true (c.push.ensures _)
 
 pub returns-else-is_sound : goal.returns-else-is_sound
 returns-else-is_sound c = rw c.refused.ensures (not_sound _ _ c.is_sound.ensures c.if-is_sound.false)

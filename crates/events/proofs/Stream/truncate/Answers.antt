@@ -5,8 +5,7 @@ use Rattle.events.proofs.Stream.truncate.Goals as goal
 
 pub returns-then-is_sound : goal.returns-then-is_sound
 returns-then-is_sound c =
-    let i = c in
-    when_sound _ _ i.is_sound.ensures i.if-is_sound.true (c.cut.ensures _)
+    when_sound _ _ c.is_sound.ensures c.if-is_sound.true (c.cut.ensures _)
 
 pub returns-else-is_sound : goal.returns-else-is_sound
 returns-else-is_sound c = rw c.refused.ensures (not_sound _ _ c.is_sound.ensures c.if-is_sound.false)

@@ -7,8 +7,7 @@ use Rattle.events.proofs.balance.depth_behind.Goals as goal
 
 pub overflow_sub-result : goal.overflow_sub-result
 overflow_sub-result c =
-    let s = c in
-    one_open s.args.depth s.args.event s.requires.event_value c.if-event-eq-END.true
+    one_open c.args.depth c.args.event c.requires.event_value c.if-event-eq-END.true
 
 pub returns-then-event-eq-BEGIN : goal.returns-then-event-eq-BEGIN
 returns-then-event-eq-BEGIN c = rw (eq-eqb c.args.event.tag begin_tag c.if-event-eq-BEGIN.true)

@@ -11,29 +11,24 @@ loop-i-init c =
 
 pub returns-then-is_unmatched : goal.returns-then-is_unmatched
 returns-then-is_unmatched c =
-    let r = c in
-    let l = r in
-    let a = l.args in
-    balanced_here a.room.now a.front l.loop-i.i l.loop-i.invariant.1 r.event_at-event.ensures l.loop-i.depth a.count
+    let a = c.args in
+    balanced_here a.room.now a.front c.loop-i.i c.loop-i.invariant.1 c.event_at-event.ensures c.loop-i.depth a.count
     (omega arith) (sym c.is_unmatched.ensures ∙ c.if-is_unmatched.true)
-    ∙ l.loop-i.invariant.2
+    ∙ c.loop-i.invariant.2
 
 pub depth_behind-depth-requires : goal.depth_behind-depth-requires
 depth_behind-depth-requires c = record { depth_bound = omega arith; event_value = sym c.is_unmatched.ensures ∙ c.if-is_unmatched.false }
 
 pub loop-i-preserved : goal.loop-i-preserved
 loop-i-preserved c =
-    let u = c in
-    let r = u in
-    let l = r in
-    let a = l.args in
-    let y = r.event_at-event.result in (
-      omega (arith, c.depth_behind-depth.ensures, one_more l.loop-i.depth y),
-      l.loop-i.invariant.1,
-      ap (λ d. balanced d (listed a.room.now a.front (l.loop-i.i + 1) (a.count - (l.loop-i.i + 1)))) c.depth_behind-depth.ensures
-          ∙ balanced_here a.room.now a.front l.loop-i.i l.loop-i.invariant.1 r.event_at-event.ensures l.loop-i.depth a.count
-          (omega arith) (sym u.is_unmatched.ensures ∙ c.if-is_unmatched.false)
-          ∙ l.loop-i.invariant.2,
+    let a = c.args in
+    let y = c.event_at-event.result in (
+      omega (arith, c.depth_behind-depth.ensures, one_more c.loop-i.depth y),
+      c.loop-i.invariant.1,
+      ap (λ d. balanced d (listed a.room.now a.front (c.loop-i.i + 1) (a.count - (c.loop-i.i + 1)))) c.depth_behind-depth.ensures
+          ∙ balanced_here a.room.now a.front c.loop-i.i c.loop-i.invariant.1 c.event_at-event.ensures c.loop-i.depth a.count
+          (omega arith) (sym c.is_unmatched.ensures ∙ c.if-is_unmatched.false)
+          ∙ c.loop-i.invariant.2,
     )
 
 pub returns : goal.returns

@@ -7,22 +7,18 @@ loop-left-init c = (c.slots-slots.ensures, refl)
 
 pub returns-then-event-eq-TOKEN : goal.returns-then-event-eq-TOKEN
 returns-then-event-eq-TOKEN c =
-    let r = c in
-    let l = r in
-    let a = l.args in
-    token_here a.room.now a.front (l.loop-left.left - 1) l.loop-left.invariant.0 r.event_at-event.ensures a.gone
+    let a = c.args in
+    token_here a.room.now a.front (c.loop-left.left - 1) c.loop-left.invariant.0 c.event_at-event.ensures a.gone
     (omega arith) c.if-event-eq-TOKEN.true
-    ∙ l.loop-left.invariant.1
+    ∙ c.loop-left.invariant.1
 
 pub loop-left-preserved : goal.loop-left-preserved
 loop-left-preserved c =
-    let r = c in
-    let l = r in
-    let a = l.args in (
-      l.loop-left.invariant.0,
-      token_before a.room.now a.front (l.loop-left.left - 1) l.loop-left.invariant.0 r.event_at-event.ensures a.gone
+    let a = c.args in (
+      c.loop-left.invariant.0,
+      token_before a.room.now a.front (c.loop-left.left - 1) c.loop-left.invariant.0 c.event_at-event.ensures a.gone
           (omega arith) c.if-event-eq-TOKEN.false
-          ∙ l.loop-left.invariant.1,
+          ∙ c.loop-left.invariant.1,
     )
 
 pub returns : goal.returns
