@@ -9,9 +9,9 @@ use Rattle.patterns.proofs.Determined.{once}
 use Rattle.tokens.specs.declared.Token.{Token}
 use Rattle.tokens.specs.declared.TokenIndex.{TokenIndex}
 use Rattle.refusals.specs.Calls.{reply}
-use Rattle.refusals.specs.RefusalLaws.{read_refusal, read_back}
+use Rattle.refusals.specs.RefusalLaws.{read_back}
 use Rattle.reader.specs.declared.Reader.{Reader}
-use Rattle.reader.specs.Reading.{source_limit, sound, Ahead, ahead}
+use Rattle.reader.specs.Reading.{source_limit, sound, ahead}
 use Rattle.reader.specs.Following.{Sound, Onward, Ends, rest, still}
 use Rattle.reader.proofs.Following.{ahead_none, ahead_end, ahead_more, ahead_count, rest_end, rest_more, rest_most}
 use Rattle.token_room.specs.Room.{nth, write, write_all}
@@ -19,7 +19,7 @@ use Rattle.token_room.specs.RoomLaws.{length_write}
 use Rattle.fetching.specs.declared.Stored.{Stored}
 use Rattle.fetching.specs.declared.Fetched.{Fetched}
 use Rattle.fetching.specs.declared.Fetched.TheVariants.{Upto, Refused}
-use Rattle.fetching.specs.Fetching.{Answer, upto, refused, stored, fetched, fetched_told, outcome}
+use Rattle.fetching.specs.Fetching.{upto, refused, stored, fetched, fetched_told, outcome}
 use Rattle.fetching.specs.FetchingLaws.{Counting, Storing, fetched_read, storing}
 
 storing_none : (r : Reader) (room : List ℕ) (i : ℕ) → storing (still r) room i ≡ (record { reader = r; next = nth i }, room)

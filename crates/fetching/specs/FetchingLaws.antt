@@ -1,25 +1,15 @@
 -- Laws of fetching. To store one token and then those ahead of the reader behind it is to store all; how many tokens are left says
 -- whether those ahead are more than are spare; and the cases of the answer. Each is one scan, or one look at the tests. Assumes nothing.
-use Rattle.std.specs.Prelude.{ℕ, suc, ◌+◌, ◌-◌, ◌≤◌, ◌<◌, ◌≡◌, refl, Bool, true, false, not, ◌&&◌, List, length, leb, ltb}
-use Rattle.std.proofs.Common.{sym, ap, ◌∙◌, arith, leb-true, le-leb, le-ltb, lt-ltb, ltb-true, ltb-false}
-use Rattle.std.proofs.lemmas.Bool.{lt-leb}
-use Rattle.patterns.proofs.Bools.{and_first, and_second}
-use Rattle.patterns.specs.Determined.{Once}
-use Rattle.patterns.proofs.Determined.{once}
-use Rattle.tokens.specs.declared.Token.{Token}
-use Rattle.tokens.specs.declared.TokenIndex.{TokenIndex}
-use Rattle.refusals.specs.Calls.{reply}
-use Rattle.refusals.specs.RefusalLaws.{read_refusal, read_back}
+use Rattle.std.specs.Prelude.{ℕ, ◌+◌, ◌≤◌, ◌≡◌, List, length}
+use Rattle.refusals.specs.RefusalLaws.{read_refusal}
 use Rattle.reader.specs.declared.Reader.{Reader}
-use Rattle.reader.specs.Reading.{source_limit, sound, Ahead, ahead}
-use Rattle.reader.specs.Following.{Sound, Onward, Ends, rest, still}
-use Rattle.reader.proofs.Following.{ahead_none, ahead_end, ahead_more, ahead_count, rest_end, rest_more, rest_most}
-use Rattle.token_room.specs.Room.{nth, write, write_all}
-use Rattle.token_room.specs.RoomLaws.{length_write}
+use Rattle.reader.specs.Reading.{Ahead, ahead}
+use Rattle.reader.specs.Following.{Sound, rest}
+use Rattle.token_room.specs.Room.{nth, write_all}
 use Rattle.fetching.specs.declared.Stored.{Stored}
 use Rattle.fetching.specs.declared.Fetched.{Fetched}
 use Rattle.fetching.specs.declared.Fetched.TheVariants.{Upto, Refused}
-use Rattle.fetching.specs.Fetching.{Answer, upto, refused, stored, fetched, fetched_told, outcome}
+use Rattle.fetching.specs.Fetching.{Answer, upto, refused, stored}
 
 -- What storing comes to, from the index i on: where it ends, and the room.
 abbrev pub storing : Ahead → List ℕ → ℕ → Stored × List ℕ
