@@ -2,9 +2,8 @@
 -- slice, lent again in a local of its own. What a walk does with a list of locals is said once here, by recursion on the list.
 -- Assumes nothing.
 use Rattle.std.specs.Prelude.{◌≡◌, refl, ℕ, zero, suc, ◌<◌, ◌^◌, List, [], ◌∷◌, ◌++◌, T as Holds, get_or}
-
 use seplogic.Ra.Ura.{Ura}
-use seplogic.Ra.TreeShare.{full_share}
+use base.Fraction.{full_share}
 use mir.Syntax.{Ty, Lifetime, Width, Local, Opd as Operand, Body, erased, mut, ty_int, ty_ref, local, value_local, place, field, deref, copy, addr_of, aggregate, assign, seq}
 use mir.Val.{Val, WT, has_ty, vptr}
 use base.Logic.{ent, via}

@@ -1,12 +1,12 @@
 -- What the walk of a thin call wants to know of an answer and of the struct that gives it beside the stream. An answer is an enum of
 -- plain data, and the struct has these two fields, so all of it is had for any enum at once (`family`). Assumes nothing.
-use Rattle.std.specs.Prelude.{◌≡◌, [], ◌∷◌, T as Holds}
+use Rattle.std.specs.Prelude.{◌≡◌, List, [], ◌∷◌, T as Holds}
 use Rattle.std.proofs.Common.{ap}
 use seplogic.Ra.Ura.{Ura}
 use mir.Syntax.{Sym, Ty, ty_struct, tcons, tnil, field}
 use mir.Val.{Val, WT, has_ty, vstruct, vnil, vcons}
 use types.Logic.{Logic}
-use denote.RattleType.{RattleType, Denots}
+use denote.RattleType.{RattleType}
 use denote.Laws.{Is, Makes}
 use denote.Steps.{only}
 use denote.Struct.Laws as LL
@@ -14,7 +14,9 @@ use denote.Enum.Laws as EL
 use denote.Enum.Declared as ED
 use denote.Enum.Enum.{Few, Plainss, layout as enum_ty}
 use denote.Struct.Declared as SD
-use denote.Struct.Field.{rows}
+use denote.Struct.Field.{Field}
+use denote.Struct.Values.{Values}
+use denote.Struct.Record.{Done, declared}
 use denote.Lowered.{Lowered}
 use Rattle.refusals.specs.Calls.{reply}
 use Rattle.event_record.specs.Record.{Call, Answer}
@@ -23,7 +25,7 @@ use Rattle.events.specs.declared.DoneGiven.{DoneGiven}
 use Rattle.events.specs.declared.PositionGiven.{PositionGiven}
 use Rattle.events.specs.declared.EventGiven.{EventGiven}
 use Rattle.events.specs.Stream.{State, step, done_told, position_told, event_told}
-use Rattle.refusals.specs.contracts.DoneAnswer as Done
+use Rattle.refusals.specs.contracts.DoneAnswer as DoneA
 use Rattle.refusals.proofs.DoneAnswer.TheLaws as Done'
 use Rattle.events.specs.contracts.PositionAnswer as Position
 use Rattle.events.proofs.PositionAnswer.TheLaws as Position'
@@ -70,12 +72,16 @@ given_val F r = vstruct (vcons (F.val (F.answer_of r)) (vcons (stream_val (F.str
 
 -- the family of an enum and of the struct G of it and a stream
 module _ (An : ED.Declared) (L : EL.Laws An) (few : Few (ED.shape An)) (plain : Plainss (ED.variants An)) (low : Lowered (ED.row An)) (told : An.D → Answer) (name : Sym) (G : Type 0) (answer_of : G → An.D) (stream_of : G → Stream) where
-  abbrev to : G → Denots (rows (ED.field An ∷ T.the_field ∷ []))
-  to r = (An.to (answer_of r), ((T.the_type).to (stream_of r), tt))
+  abbrev parts : List Field
+  parts = ED.field An ∷ T.the_field ∷ []
 
-  module _ (to_one : (x y : G) → to x ≡ to y → x ≡ y) where
+  abbrev as_values : G → Values parts
+  as_values r = (answer_of r, (stream_of r, tt))
+
+  -- G is just these two fields
+  module _ (make : Values parts → Done → G) (eta : (r : G) → make (as_values r) tt ≡ r) (beta : (v : Values parts) (g : Done) → as_values (make v g) ≡ v) (propositions : Values parts → IsProp Done) where
     abbrev struct : SD.Declared
-    struct = record { name = name; args = []; parts = ED.field An ∷ T.the_field ∷ []; D = G; to = to; to_one = to_one }
+    struct = declared (record { name = name; args = []; types = []; parts = parts; D = G; as_values = as_values; Ghost = λ v. Done; ghosts = λ d. tt; make = make; eta = eta; beta = beta }) propositions
 
     abbrev laws : LL.Laws struct
     laws = (EL.field_laws An L few low, (T'.the_field_laws, tt))
@@ -99,10 +105,10 @@ module _ (An : ED.Declared) (L : EL.Laws An) (few : Few (ED.shape An)) (plain : 
 
 -- the three families
 abbrev pub dones : Answers
-dones = family Done.the_type Done'.the_laws tt Done'.the_plain Done'.lowers done_told (DoneG.struct).name DoneGiven (λ r. r.answer) (λ r. r.stream) (DoneG.the_type).to_one
+dones = family DoneA.the_type Done'.the_laws tt Done'.the_plain Done'.lowers done_told (DoneG.struct).name DoneGiven (λ r. r.answer) (λ r. r.stream) (DoneG.struct).make (DoneG.struct).eta (DoneG.struct).beta DoneG.the_propositions
 
 abbrev pub positions : Answers
-positions = family Position.the_type Position'.the_laws tt Position'.the_plain Position'.lowers position_told (PositionG.struct).name PositionGiven (λ r. r.answer) (λ r. r.stream) (PositionG.the_type).to_one
+positions = family Position.the_type Position'.the_laws tt Position'.the_plain Position'.lowers position_told (PositionG.struct).name PositionGiven (λ r. r.answer) (λ r. r.stream) (PositionG.struct).make (PositionG.struct).eta (PositionG.struct).beta PositionG.the_propositions
 
 abbrev pub events : Answers
-events = family Event.the_type Event'.the_laws tt Event'.the_plain Event'.lowers event_told (EventG.struct).name EventGiven (λ r. r.answer) (λ r. r.stream) (EventG.the_type).to_one
+events = family Event.the_type Event'.the_laws tt Event'.the_plain Event'.lowers event_told (EventG.struct).name EventGiven (λ r. r.answer) (λ r. r.stream) (EventG.struct).make (EventG.struct).eta (EventG.struct).beta EventG.the_propositions

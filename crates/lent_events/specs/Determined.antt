@@ -1,7 +1,6 @@
 -- The thin calls' promises leave no choice: the answer, the record at exit and the rooms at exit are the covered call's answer, record and
 -- rooms, which its promise determines (events/specs/Determined). Assumes nothing.
 use Rattle.std.specs.Prelude.{ℕ, List}
-
 use Rattle.std.proofs.Common.{ap}
 use Rattle.patterns.specs.Determined.{Once}
 use Rattle.refusals.specs.declared.DoneAnswer.{DoneAnswer}

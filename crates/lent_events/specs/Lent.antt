@@ -1,9 +1,8 @@
 -- The record of a stream behind a reference: it is copied out, and another is stored. While the borrow is open the code owns the record's
 -- cell; it is closed at the record that was stored, which is then the one that the lender reads. Assumes nothing.
 use Rattle.std.specs.Prelude.{◌≡◌, refl, ℕ, List, [], ◌∷◌, get_or}
-
 use seplogic.Ra.Ura.{Ura}
-use seplogic.Ra.TreeShare.{full_share}
+use base.Fraction.{full_share}
 use mir.Syntax.{Ty, Body, named, mut, ty_ref, place, field, deref, copy, rv_opd, assign, seq}
 use mir.Val.{Val, vptr}
 use base.Fml.{Lft, Share, GName, Fml, flft, fobs, fauth, fbor, fobor}

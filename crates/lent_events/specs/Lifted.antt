@@ -2,10 +2,9 @@
 -- of tokens, result and last values; the covered call gives all but the record's last value, which is the record that was stored.
 -- Assumes nothing.
 use Rattle.std.specs.Prelude.{◌≡◌, refl, List, [], ◌∷◌, ◌++◌}
-
 use Rattle.std.proofs.Common.{sym, subst, ap, ◌∙◌}
 use seplogic.Ra.Ura.{Ura}
-use mir.Syntax.{Name, named}
+use mir.Syntax.{Callee, named}
 use mir.Val.{Val}
 use base.Logic.{SProp, ent, sep, ex, emp, via, id⊢}
 use base.Fml.{Fml, ftrue, fsep, fres}

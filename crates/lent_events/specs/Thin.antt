@@ -1,9 +1,8 @@
 -- The walk of a thin call: the lent record is copied out, the covered call runs on the copy and on the other parameters, the record that it
 -- gave is stored, whatever it answered. So one walk serves all nine calls, whatever the other parameters are. Assumes nothing.
 use Rattle.std.specs.Prelude.{◌≡◌, refl, ℕ, suc, List, [], ◌∷◌, ◌++◌, get_or}
-
 use seplogic.Ra.Ura.{Ura}
-use mir.Syntax.{Name, Ty, Fn, local, value_local, place, field, deref, copy, rv_opd, assign, call, seq, return}
+use mir.Syntax.{Callee, Ty, Fn, local, value_local, place, field, deref, copy, rv_opd, assign, call, seq, return}
 use mir.Val.{Val}
 use base.Logic.{SProp, ent, sep, ex, id⊢}
 use prog.Wp.{no_local, Calls, Loops, WpFn}
@@ -31,15 +30,22 @@ given ks = suc (suc (past (param_types ks) 1))
 abbrev pub fresh : List Kind → ℕ
 fresh ks = suc (suc (past (param_types ks) 2))
 
+-- and the one through which the record that was given goes back
+abbrev pub back : List Kind → ℕ
+back ks = suc (suc (past (param_types ks) (suc (suc (past (fresh_types ks) 0)))))
+
 -- The code of a thin call in MIR, over the family of its answer, the kinds of its other parameters and the callee's name.
-abbrev pub shape : Answers → List Kind → Name → Fn
+abbrev pub shape : Answers → List Kind → Callee → Fn
 shape F ks n = record {
   lifetimes = 3;
   outlives = [];
+  ty_params = [];
+  givens = 0;
   params = past (param_types ks) 1;
-  locals = local F.ty value_local ∷ local ref_ty value_local ∷ (locals (param_types ks) ++ (local T'.mir value_local ∷ local (given_ty F) value_local ∷ (locals (fresh_types ks) ++ [])));
+  locals = local F.ty value_local ∷ local ref_ty value_local ∷ (locals (param_types ks) ++ (local T'.mir value_local ∷ local (given_ty F) value_local ∷ (locals (fresh_types ks) ++ (local T'.mir value_local ∷ []))));
   body = seq (assign (place (before ks) []) (rv_opd (copy (place 1 (deref T'.mir ∷ []))))) (lends 2 (fresh ks) ks
       (seq (call n (copy (place (before ks) []) ∷ operands 2 (fresh ks) ks) (place (given ks) []))
-      (seq (assign (place 1 (deref T'.mir ∷ [])) (rv_opd (copy (place (given ks) (field 1 ∷ [])))))
-      (seq (assign (place 0 []) (rv_opd (copy (place (given ks) (field 0 ∷ []))))) return))));
+      (seq (assign (place (back ks) []) (rv_opd (copy (place (given ks) (field 1 ∷ [])))))
+      (seq (assign (place 1 (deref T'.mir ∷ [])) (rv_opd (copy (place (back ks) []))))
+      (seq (assign (place 0 []) (rv_opd (copy (place (given ks) (field 0 ∷ []))))) return)))));
 }

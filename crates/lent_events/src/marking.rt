@@ -1,7 +1,7 @@
 // The calls on bookmarks, truncate and pop, on a stream whose record is lent.
 ghost use Rattle.std.specs.Prelude.{◌≡◌};
 ghost use Rattle.refusals.specs.Calls.{reply};
-ghost use Rattle.event_record.specs.Record.{bookmark as bookmark-call, truncate as truncate-call, remove_bookmark, pop as pop-call};
+ghost use Rattle.event_record.specs.Record.{bookmark as bookmark_call, truncate as truncate_call, remove_bookmark, pop as pop_call};
 ghost use Rattle.events.specs.Stream.{state, step, done_told, position_told, event_told};
 
 use event_record::Position;
@@ -10,7 +10,7 @@ use refusals::DoneAnswer;
 
 // A bookmark of the end of the stream.
 pub fn bookmark(stream: &mut Stream, room: &[u32], opens: &[usize]) -> PositionAnswer
-    ensures { reply (position_told result) (state stream.new room.now opens.now) ≡ step bookmark-call (state stream.old room.now opens.now) }
+    ensures { reply (position_told result) (state stream.new room.now opens.now) ≡ step bookmark_call (state stream.old room.now opens.now) }
 {
     let before = *stream;
     let given = before.bookmark(room, opens);
@@ -20,7 +20,7 @@ pub fn bookmark(stream: &mut Stream, room: &[u32], opens: &[usize]) -> PositionA
 
 // Takes back what was pushed since a position. The bookmark stays live.
 pub fn truncate(stream: &mut Stream, room: &[u32], opens: &[usize], mark: Position) -> DoneAnswer
-    ensures { reply (done_told result) (state stream.new room.now opens.now) ≡ step (truncate-call mark) (state stream.old room.now opens.now) }
+    ensures { reply (done_told result) (state stream.new room.now opens.now) ≡ step (truncate_call mark) (state stream.old room.now opens.now) }
 {
     let before = *stream;
     let given = before.truncate(room, opens, mark);
@@ -45,7 +45,7 @@ pub fn remove_bookmark(
 
 // The first event, which leaves the stream.
 pub fn pop(stream: &mut Stream, room: &[u32], opens: &[usize]) -> EventAnswer
-    ensures { reply (event_told result) (state stream.new room.now opens.now) ≡ step pop-call (state stream.old room.now opens.now) }
+    ensures { reply (event_told result) (state stream.new room.now opens.now) ≡ step pop_call (state stream.old room.now opens.now) }
 {
     let before = *stream;
     let given = before.pop(room, opens);

@@ -1,14 +1,13 @@
 -- `lent_events::pop` meets its contract: it has the shape `ask`, and the covered call that it makes
 -- meets the same of the record by value. Assumes nothing.
-use mathlib.Core.List.{[], ◌∷◌}
+use Rattle.std.specs.Prelude.{[], ◌∷◌}
 use contract.Monad.{fact_i}
 use contract.Running.{tables, tables_of}
 use denote.Triple.Spec.{triple_of}
-use denote.Triple.Table.{entered, cited}
+use denote.Triple.Table.{entered}
 use Rattle.event_record.specs.Record.{pop as call}
-use Rattle.events.specs.contracts.Stream.pop as core
-use Rattle.events.proofs.Stream.pop.Symbol as core-def
-use Rattle.events.proofs.Stream.pop.Met as core-thm
+use Rattle.events.proofs.Stream.pop.Symbol as core_def
+use Rattle.events.proofs.Stream.pop.Met as core_thm
 use Rattle.lent_events.specs.Answers.{events, stream_val}
 use Rattle.lent_events.specs.Lifted.{spelt}
 use Rattle.lent_events.proofs.Lifted.{meets}
@@ -19,11 +18,10 @@ use Rattle.lent_events.proofs.marking.pop.Statement as stated
 use Rattle.lent_events.proofs.marking.pop.Code as code
 
 pub pop_spec : {M : Type 1} → stated.statement M
-unfolding code.routine tables_of
-pop_spec 𝓤 𝓛 𝓜 𝓡 =
-    let covered = cited 𝓤 𝓛.H (triple_of 𝓛 core.signature (core.spec 𝓛 𝓜.mem 𝓡.run)) 𝓜 𝓡 code.env core-def.name core-def.routine code.calls-events::Stream::pop (core-thm.met 𝓤 𝓛 𝓜 𝓡) in
-    entered 𝓤 𝓛.H (triple_of 𝓛 thin.signature (thin.spec 𝓛 𝓜.mem 𝓡.run))
-    (tables 𝓤 𝓛.H 𝓜 𝓡 code.env).C (tables 𝓤 𝓛.H 𝓜 𝓡 code.env).Λ key.name code.function (code.unfolded 𝓤 𝓛.H 𝓜 𝓡)
-    (meets events ask 𝓛 core-def.name (asking events call) (tables_of 𝓤 𝓛.H 𝓜 (tables 𝓤 𝓛.H 𝓜 𝓡 code.env)) (thin.clauses 𝓛 𝓜.mem 𝓡.run)
+unfolding tables_of
+pop_spec 𝓤 𝓛 𝓜 𝓡 w =
+    entered 𝓤 𝓛.H (triple_of 𝓛 thin.signature (thin.spec 𝓛 𝓜.mem 𝓡.returns))
+    (tables 𝓤 𝓛.H 𝓜 𝓡 𝓡.env).C (tables 𝓤 𝓛.H 𝓜 𝓡 𝓡.env).Λ key.name code.function (code.unfolded 𝓤 𝓛.H 𝓜 𝓡 w)
+    (meets events ask 𝓛 core_def.name (asking events call) (tables_of 𝓤 𝓛.H 𝓜 (tables 𝓤 𝓛.H 𝓜 𝓡 𝓡.env)) (thin.clauses 𝓛 𝓜.mem 𝓡.returns)
     (λ κs a g e z promised. fact_i 𝓤 _ _ promised)
-    (λ κs qs h a is. covered ((κs.1, qs.1, tt, (h, a), (stream_val h ∷ [], spelt ask κs a)), tt)))
+    (λ κs qs h a is. core_thm.met 𝓤 𝓛 𝓜 𝓡 (code.calls-events::Stream::pop 𝓡.env w) ((κs.1, qs.1, tt, (h, a), (stream_val h ∷ [], spelt ask κs a)), tt)))

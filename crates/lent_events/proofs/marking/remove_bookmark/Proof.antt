@@ -1,14 +1,13 @@
 -- `lent_events::remove_bookmark` meets its contract: it has the shape `at_mark`, and the covered call that it makes
 -- meets the same of the record by value. Assumes nothing.
-use mathlib.Core.List.{[], ◌∷◌}
+use Rattle.std.specs.Prelude.{[], ◌∷◌}
 use contract.Monad.{fact_i}
 use contract.Running.{tables, tables_of}
 use denote.Triple.Spec.{triple_of}
-use denote.Triple.Table.{entered, cited}
+use denote.Triple.Table.{entered}
 use Rattle.event_record.specs.Record.{remove_bookmark as call}
-use Rattle.events.specs.contracts.Stream.remove_bookmark as core
-use Rattle.events.proofs.Stream.remove_bookmark.Symbol as core-def
-use Rattle.events.proofs.Stream.remove_bookmark.Met as core-thm
+use Rattle.events.proofs.Stream.remove_bookmark.Symbol as core_def
+use Rattle.events.proofs.Stream.remove_bookmark.Met as core_thm
 use Rattle.lent_events.specs.Answers.{dones, stream_val}
 use Rattle.lent_events.specs.Lifted.{spelt}
 use Rattle.lent_events.proofs.Lifted.{meets}
@@ -18,12 +17,11 @@ use Rattle.lent_events.specs.contracts.marking.remove_bookmark.Key as key
 use Rattle.lent_events.proofs.marking.remove_bookmark.Statement as stated
 use Rattle.lent_events.proofs.marking.remove_bookmark.Code as code
 
-pub remove-bookmark-spec : {M : Type 1} → stated.statement M
-unfolding code.routine tables_of
-remove-bookmark-spec 𝓤 𝓛 𝓜 𝓡 =
-    let covered = cited 𝓤 𝓛.H (triple_of 𝓛 core.signature (core.spec 𝓛 𝓜.mem 𝓡.run)) 𝓜 𝓡 code.env core-def.name core-def.routine code.calls-events::Stream::remove_bookmark (core-thm.met 𝓤 𝓛 𝓜 𝓡) in
-    entered 𝓤 𝓛.H (triple_of 𝓛 thin.signature (thin.spec 𝓛 𝓜.mem 𝓡.run))
-    (tables 𝓤 𝓛.H 𝓜 𝓡 code.env).C (tables 𝓤 𝓛.H 𝓜 𝓡 code.env).Λ key.name code.function (code.unfolded 𝓤 𝓛.H 𝓜 𝓡)
-    (meets dones at_mark 𝓛 core-def.name (marking call) (tables_of 𝓤 𝓛.H 𝓜 (tables 𝓤 𝓛.H 𝓜 𝓡 code.env)) (thin.clauses 𝓛 𝓜.mem 𝓡.run)
+pub remove_bookmark_spec : {M : Type 1} → stated.statement M
+unfolding tables_of
+remove_bookmark_spec 𝓤 𝓛 𝓜 𝓡 w =
+    entered 𝓤 𝓛.H (triple_of 𝓛 thin.signature (thin.spec 𝓛 𝓜.mem 𝓡.returns))
+    (tables 𝓤 𝓛.H 𝓜 𝓡 𝓡.env).C (tables 𝓤 𝓛.H 𝓜 𝓡 𝓡.env).Λ key.name code.function (code.unfolded 𝓤 𝓛.H 𝓜 𝓡 w)
+    (meets dones at_mark 𝓛 core_def.name (marking call) (tables_of 𝓤 𝓛.H 𝓜 (tables 𝓤 𝓛.H 𝓜 𝓡 𝓡.env)) (thin.clauses 𝓛 𝓜.mem 𝓡.returns)
     (λ κs a g e z promised. fact_i 𝓤 _ _ promised)
-    (λ κs qs h a is. covered ((κs.1, qs.1, tt, (h, a), (stream_val h ∷ [], spelt at_mark κs a)), tt)))
+    (λ κs qs h a is. core_thm.met 𝓤 𝓛 𝓜 𝓡 (code.calls-events::Stream::remove_bookmark 𝓡.env w) ((κs.1, qs.1, tt, (h, a), (stream_val h ∷ [], spelt at_mark κs a)), tt)))
