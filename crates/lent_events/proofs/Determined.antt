@@ -1,11 +1,9 @@
 -- The thin calls' promises leave no choice: the answer, the record at exit and the rooms at exit are the covered call's answer, record and
 -- rooms, which its promise determines (events/specs/Determined). Assumes nothing.
-use Rattle.std.specs.Prelude.{ℕ, List}
 use Rattle.std.proofs.Common.{ap}
 use Rattle.patterns.specs.Determined.{Once}
 use Rattle.refusals.specs.declared.DoneAnswer.{DoneAnswer}
 use Rattle.refusals.specs.Calls.{reply}
-use Rattle.events.specs.declared.Stream.{Stream}
 use Rattle.events.specs.declared.PositionAnswer.{PositionAnswer}
 use Rattle.events.specs.declared.EventAnswer.{EventAnswer}
 use Rattle.events.specs.Stream.{state, done_told, position_told, event_told}

@@ -3,18 +3,14 @@
 use Rattle.std.specs.Prelude.{◌≡◌, refl, ℕ, List, [], ◌∷◌, get_or}
 use seplogic.Ra.Ura.{Ura}
 use base.Fraction.{full_share}
-use mir.Syntax.{Ty, Body, named, mut, ty_ref, place, field, deref, copy, rv_opd, assign, seq}
-use mir.Val.{Val, vptr}
-use base.Fml.{Lft, Share, GName, Fml, flft, fobs, fauth, fbor, fobor}
+use mir.Syntax.{Ty, Body, place, field, deref, copy, rv_opd, assign, seq}
+use mir.Val.{Val}
 use prog.Wp.{Env, no_local, Calls, Loops}
 use types.Logic.{Logic}
 use types.Kit.{Item, ‵, Post, runs, lands, Seq, ◌$◌, !, move, drop, rewrite, fsplit3}
 use types.Run.{look, look_raw, init, store_raw, stop, hop, fld, from, load, of_opd, assigns, land}
 use types.Part.{whole, sub, look_in}
-use types.SemTy.{Body as Lies}
-use denote.Memory.{mem, pointee, cell_at}
 use denote.Laws.{Is, shows}
-use denote.Ref.{MutBor, MutRef}
 use denote.Steps.{opens, closes, owned, peeks}
 use denote.Struct.Steps.{spelt}
 use denote.Struct.Laws as LL
@@ -24,7 +20,7 @@ use Rattle.events.specs.declared.Stream.{Stream}
 use Rattle.events.specs.contracts.Stream as T
 use Rattle.events.proofs.Stream.TheLaws as T'
 use Rattle.lent_events.specs.Answers.{Answers, stream_val, given_ty, given_val}
-use Rattle.lent_events.specs.Lent.{Lent, closed, last_value, lent_out, opened, ref_ty, ref_val, reference, token}
+use Rattle.lent_events.specs.Lent.{Lent, closed, opened, ref_ty, ref_val, reference, token}
 
 module _ {M : Type 1} {𝓤 : Ura M} {𝓛 : Logic 𝓤} {K : Type 0} {Γ : List (Item 𝓤)} {C : Calls 𝓤 𝓛.H} {Λ : Loops 𝓤 𝓛.H} {E : Env 𝓤 𝓛.H} {Q : Post 𝓤 𝓛.H} {rest : Body} {l l₀ l₁ : ℕ} where
   -- `let before = *stream;`, before being local c

@@ -15,29 +15,27 @@ use sound.WpLaws.{FmC, fm_of}
 use contract.Monad.{fact}
 use contract.Lifetimes.{Lfts, Shares, toks}
 use types.Kit.{‵, raw, ◌⊛◌, some, ⋆, ◌$◌, ◌∵◌, !, qed, by, move, drop, use1, split, pick, join, keep, fsplit, fjoin, frame, show, updating, now as at_once, done}
-use denote.RattleType.{Denots, Valss, flat, owns}
+use denote.RattleType.{Denots, flat, owns}
 use denote.Memory.{mem}
-use denote.Laws.{Is, Are, Ises, Spells, Tells, Tellss, valss}
-use denote.Builtin.{RefMutOf}
+use denote.Laws.{Is, Ises, Tellss}
 use denote.Exit.{yes}
 use denote.Ref.{mut_vals, mut_Tells}
-use denote.Signature.{Slot, plain, type_at, types_at}
+use denote.Signature.{types_at}
 use denote.Steps.{owned, heard, nothing}
 use denote.Struct.Laws as LL
-use denote.Triple.Clauses.{Ended, Clauses, closing}
-use denote.Triple.End.{all, Fins, Outs, outs, lasts_of}
+use denote.Triple.Clauses.{Clauses, closing}
+use denote.Triple.End.{all, Fins, outs, lasts_of}
 use denote.Triple.Spec.{Meets}
-use Rattle.walks.specs.Contracts.{Follows}
 use Rattle.walks.proofs.Contracts.{spelled}
 use Rattle.events.specs.declared.Stream.{Stream}
 use Rattle.events.specs.contracts.Stream as T
 use Rattle.events.proofs.Stream.TheLaws as T'
 use Rattle.lent_events.specs.Answers.{Answers, stream_val}
 use Rattle.lent_events.specs.Lent.{Lent, lent_out, ref_val, reference, token, closed}
-use Rattle.lent_events.specs.Params.{Kind, Passed, value, Arguments, passed_values}
+use Rattle.lent_events.specs.Params.{value, Arguments, passed_values}
 use Rattle.lent_events.specs.Thin.{shape}
 use Rattle.lent_events.proofs.Thin.{walk}
-use Rattle.lent_events.specs.Lifted.{Known, Param, Promise, kinds, slots, spells, spelt}
+use Rattle.lent_events.specs.Lifted.{Known, Param, Promise, Promised, kinds, slots, spells, spelt, thin_ended}
 
 tells_all : (ps : List Param) (κs : Lfts 3) → Tellss (types_at (slots ps) κs) (Ises (types_at (slots ps) κs)) (spells ps κs)
 tells_all [] κs = tt
@@ -53,14 +51,6 @@ module _ {M : Type 1} {𝓤 : Ura M} (𝓛 : Logic 𝓤) where
   same_all (p ∷ ps) κs a is = ap (λ (vs : List Val). vs ++ flat (types_at (slots ps) κs) (spelt ps κs a.1)) (p.same 𝓛 κs a.0 is.0) ∙ ap (λ (vs : List Val). value p.kind (p.argument 𝓛 κs a.0 is.0) ∷ vs) (same_all ps κs a.1 is.1)
 
 module _ (F : Answers) (ps : List Param) where
-  -- its signature
-  abbrev pub thin_ended : Ended
-  thin_ended = record { signature = record { lifetimes = 3; outlives = []; params = RefMutOf (0 ∷ []) tt (plain (λ _. T.the_row)) (λ _. tt) ∷ slots ps; result = plain (λ _. F.answer) }; kept = (yes, all yes (slots ps)) }
-
-  -- that its contract follows from the promise
-  abbrev pub Promised : {M : Type 1} (𝓤 : Ura M) → Promise F ps → Clauses 𝓤 thin_ended → Type 1
-  Promised 𝓤 Says = Follows 𝓤 thin_ended (λ κs a e z. Says κs a.0.now a.1 e z.0.now z.1)
-
   module _ {M : Type 1} {𝓤 : Ura M} (𝓛 : Logic 𝓤) (n : Callee) (Says : Promise F ps) (C : Calls 𝓤 𝓛.H) (Λ : Loops 𝓤 𝓛.H) (fm : FmC 𝓤 𝓛.H 𝓛.laws C) (κs : Lfts 3) (qs : Shares 3) (h : Stream) (a : Denots (types_at (slots ps) κs)) (is : Known ps κs a) where
     -- the others' tokens, what they own, their last values, and what is promised of these
     open 𝓛 use {H}
@@ -92,7 +82,7 @@ module _ (F : Answers) (ps : List Param) where
         ent 𝓤 (sep 𝓤 (sep 𝓤 tokens (sem 𝓛 (fsep ((T.the_row).own_val h (stream_val h ∷ [])) owned_by_others))) (emp 𝓤))
         (C n (stream_val h ∷ passed_values (kinds ps) passed) (λ w. H.⇛ (ex 𝓤 (λ (x : F.given.Denot). sep 𝓤 (sep 𝓤 tokens (sem 𝓛 (F.given.own_val x (w ∷ [])))) (core_says x)))))
 
-    module _ (r : Lent) (c : Clauses 𝓤 thin_ended) (g : (c κs (lent_out r h, a)).ghost) where
+    module _ (r : Lent) (c : Clauses 𝓤 (thin_ended F ps)) (g : (c κs (lent_out r h, a)).ghost) where
       -- what the thin call leaves: the last values and the record's borrow with its promise; tokens, the answer and that
       abbrev left_with : F.answer.Denot → Stream × Lasts → SProp 𝓤
       left_with e ws = sep 𝓤 (sem 𝓛 (fsep (fsep (fres r.name ((T.the_row).coded.code ws.0)) (fbor r.lft (Lies (mem T.the_row) r.block r.offset r.name))) (lasts ws.1))) ((c κs (lent_out r h, a)).ensures g e (lent_out r ws.0, outs κs (slots ps) (all yes (slots ps)) a ws.1))
@@ -104,7 +94,7 @@ module _ (F : Answers) (ps : List Param) where
       thin_post v = H.⇛ (ex 𝓤 (answered_with v))
 
       -- at exit the lender reads the record that was stored
-      exits : Promised 𝓤 Says c → (x : F.given.Denot) → Is F.answer (F.answer_of x) (F.val (F.answer_of x) ∷ []) → ent 𝓤 (⋆ 𝓛 (closed r (F.stream_of x) (raw tokens ∷ raw (core_says x) ∷ []))) (thin_post (F.val (F.answer_of x)))
+      exits : Promised F ps 𝓤 Says c → (x : F.given.Denot) → Is F.answer (F.answer_of x) (F.val (F.answer_of x) ∷ []) → ent 𝓤 (⋆ 𝓛 (closed r (F.stream_of x) (raw tokens ∷ raw (core_says x) ∷ []))) (thin_post (F.val (F.answer_of x)))
       exits promised x i =
           qed 𝓛 (closed r (F.stream_of x) (raw tokens ∷ raw (core_says x) ∷ [])) ∵
           updating ! $ at_once ! $ move ! (4 ∷ []) $ use1 𝓛 (some (λ (ws : Unit {0} × Lasts). ‵ (fsep ftrue (lasts ws.1)) ⊛ raw (fact 𝓤 (Said (F.answer_of x) (F.stream_of x) ws.1)))) (id⊢ 𝓤 _) $ pick ! (λ ws. split ! $ fsplit ! $ drop ! $ move ! (1 ∷ []) $ heard ! _ (λ said.
@@ -113,7 +103,7 @@ module _ (F : Answers) (ps : List Param) where
           show ! (left_with (F.answer_of x)) (F.stream_of x, ws.1) $ move ! (1 ∷ []) $ use1 𝓛 (‵ (fres r.name ((T.the_row).coded.code (F.stream_of x)))) (𝓛.names.obs-res r.name ((T.the_row).coded.code (F.stream_of x))) $ move ! (0 ∷ 2 ∷ []) $ fjoin ! $ fjoin ! $ frame ! $
           by ! (promised κs (lent_out r h, a) g (F.answer_of x) _ said)))
 
-      lifted : Promised 𝓤 Says c → Covered → ent 𝓤 (sep 𝓤 (sep 𝓤 (sep 𝓤 (sem 𝓛 (token r)) tokens) (sem 𝓛 (fsep (reference r h) owned_by_others))) ((c κs (lent_out r h, a)).requires g)) (WpFn 𝓤 H C Λ (shape F (kinds ps) n) (ref_val r ∷ passed_values (kinds ps) passed) thin_post)
+      lifted : Promised F ps 𝓤 Says c → Covered → ent 𝓤 (sep 𝓤 (sep 𝓤 (sep 𝓤 (sem 𝓛 (token r)) tokens) (sem 𝓛 (fsep (reference r h) owned_by_others))) ((c κs (lent_out r h, a)).requires g)) (WpFn 𝓤 H C Λ (shape F (kinds ps) n) (ref_val r ∷ passed_values (kinds ps) passed) thin_post)
       lifted promised known =
           via 𝓤 _
           (qed 𝓛 (((‵ (token r) ⊛ raw tokens) ⊛ ‵ (fsep (reference r h) owned_by_others)) ∷ raw ((c κs (lent_out r h, a)).requires g) ∷ []) ∵ split ! $ split ! $ move ! (2 ∷ []) $ fsplit ! $ move ! (0 ∷ 2 ∷ 3 ∷ 1 ∷ []) $ frame ! $ frame ! $ keep ! (0 ∷ 1 ∷ []) $ done !)
@@ -122,12 +112,12 @@ module _ (F : Answers) (ps : List Param) where
           (exits promised))
 
   -- The thin call meets its contract where that follows from the promise, and the covered call meets the promise of the record by value.
-  pub meets : {M : Type 1} {𝓤 : Ura M} (𝓛 : Logic 𝓤) (n : Callee) (Says : Promise F ps) (𝓣 : Tables 𝓤 𝓛.H) (c : Clauses 𝓤 thin_ended) → Promised 𝓤 Says c
+  pub meets : {M : Type 1} {𝓤 : Ura M} (𝓛 : Logic 𝓤) (n : Callee) (Says : Promise F ps) (𝓣 : Tables 𝓤 𝓛.H) (c : Clauses 𝓤 (thin_ended F ps)) → Promised F ps 𝓤 Says c
       → ((κs : Lfts 3) (qs : Shares 3) (h : Stream) (a : Denots (types_at (slots ps) κs)) (is : Known ps κs a) → Covered 𝓛 n Says 𝓣.C 𝓣.Λ (fm_of 𝓤 𝓛.H 𝓛.laws 𝓣) κs qs h a is)
-      → Meets 𝓛 thin_ended.signature (WpFn 𝓤 𝓛.H 𝓣.C 𝓣.Λ (shape F (kinds ps) n)) (closing 𝓛 thin_ended c)
+      → Meets 𝓛 (thin_ended F ps).signature (WpFn 𝓤 𝓛.H 𝓣.C 𝓣.Λ (shape F (kinds ps) n)) (closing 𝓛 (thin_ended F ps) c)
   meets {𝓤 = 𝓤} 𝓛 n Says 𝓣 c promised known =
       let run = WpFn 𝓤 𝓛.H 𝓣.C 𝓣.Λ (shape F (kinds ps) n) in
-      spelled 𝓛 thin_ended.signature (closing 𝓛 thin_ended c) run (λ κs. (mut_vals, spells ps κs)) (λ κs. (mut_Tells (named 0) κs.0 T.the_row, tells_all ps κs))
+      spelled 𝓛 (thin_ended F ps).signature (closing 𝓛 (thin_ended F ps) c) run (λ κs. (mut_vals, spells ps κs)) (λ κs. (mut_Tells (named 0) κs.0 T.the_row, tells_all ps κs))
       (λ κs qs bounds a g are.
       let r : Lent = record { lft = κs.0; share = qs.0; block = a.0.ref_ptr.0; offset = a.0.ref_ptr.1; name = a.0.ghost_name } in
       let post = thin_post 𝓛 n Says 𝓣.C 𝓣.Λ (fm_of 𝓤 𝓛.H 𝓛.laws 𝓣) κs qs a.0.now a.1 are.1 r c g in

@@ -1,13 +1,13 @@
 -- The parameters of a thin call beside the record, whatever they are: each is handed on to the callee as it is, or, where it is a `&mut`
 -- slice, lent again in a local of its own. What a walk does with a list of locals is said once here, by recursion on the list.
 -- Assumes nothing.
-use Rattle.std.specs.Prelude.{◌≡◌, refl, ℕ, zero, suc, ◌<◌, ◌^◌, List, [], ◌∷◌, ◌++◌, T as Holds, get_or}
+use Rattle.std.specs.Prelude.{refl, ℕ, zero, suc, List, [], ◌∷◌, ◌++◌}
 use seplogic.Ra.Ura.{Ura}
 use base.Fraction.{full_share}
-use mir.Syntax.{Ty, Lifetime, Width, Local, Opd as Operand, Body, erased, mut, ty_int, ty_ref, local, value_local, place, field, deref, copy, addr_of, aggregate, assign, seq}
-use mir.Val.{Val, WT, has_ty, vptr}
+use mir.Syntax.{Ty, Local, Opd as Operand, Body, erased, mut, ty_int, ty_ref}
+use mir.Val.{Val, vptr}
 use base.Logic.{ent, via}
-use base.Fml.{ftrue, fat, froom, fdies}
+use base.Fml.{fat}
 use prog.Wp.{Env, no_local, Calls, Loops}
 use types.Logic.{Logic}
 use types.Kit.{Item, ‵, ◌⊛◌, ⋆, Post, Goal, runs, allocs, passes, frees, Seq, Step, step, ◌$◌, ◌∵◌, Go, !, qed, move, drop, split, join, done}
@@ -17,7 +17,7 @@ use denote.Slice.{slice_val}
 use denote.Steps.{nothing}
 use Rattle.walks.specs.Steps.{slice_ty, script, goes_on}
 use Rattle.walks.proofs.Steps.{at_local}
-use Rattle.lent_events.specs.Params.{Arguments, At, Blocks, Kind, Passed, Values, again, cells, ends, env, fresh_types, fresh_values, lends, listed, locals, operands, param_types, param_values, passed, passed_values, past, rooms, type_of, value}
+use Rattle.lent_events.specs.Params.{Arguments, At, Blocks, Kind, Values, again, cells, ends, env, fresh_types, fresh_values, lends, locals, operands, param_types, param_values, passed, passed_values, past, rooms}
 
 pub at_suc : (E : List (Ty × ℕ)) (none e : Ty × ℕ) (i : ℕ) (D : List (Ty × ℕ)) → At E none i D → At (e ∷ E) none (suc i) D
 at_suc E none e i [] a = tt

@@ -2,7 +2,7 @@
 -- gave is stored, whatever it answered. So one walk serves all nine calls, whatever the other parameters are. Assumes nothing.
 use Rattle.std.specs.Prelude.{◌≡◌, refl, ℕ, suc, List, [], ◌∷◌, ◌++◌, get_or}
 use seplogic.Ra.Ura.{Ura}
-use mir.Syntax.{Callee, Ty, Fn, local, value_local, place, field, deref, copy, rv_opd, assign, call, seq, return}
+use mir.Syntax.{Callee, Ty}
 use mir.Val.{Val}
 use base.Logic.{SProp, ent, sep, ex, id⊢}
 use prog.Wp.{no_local, Calls, Loops, WpFn}
@@ -19,7 +19,7 @@ use Rattle.events.proofs.Stream.TheLaws as T'
 use Rattle.lent_events.specs.Answers.{Answers, stream_val, given_ty}
 use Rattle.lent_events.specs.Lent.{Lent, ref_ty, ref_val, reference, token, closed}
 use Rattle.lent_events.proofs.Lent.{copied, stored}
-use Rattle.lent_events.specs.Params.{Kind, Arguments, param_types, fresh_types, param_values, fresh_values, passed_values, locals, past, lends, operands, Blocks, env, At}
+use Rattle.lent_events.specs.Params.{Kind, Arguments, param_types, fresh_types, param_values, fresh_values, passed_values, past, Blocks, env, At}
 use Rattle.lent_events.proofs.Params.{at_suc, at_here, at_past, alloc_all, pass_all, free_all, lend_all, operands_all}
 use Rattle.lent_events.specs.Thin.{before, fresh, given, back, shape}
 

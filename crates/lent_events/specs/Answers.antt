@@ -3,7 +3,7 @@
 use Rattle.std.specs.Prelude.{◌≡◌, List, [], ◌∷◌, T as Holds}
 use Rattle.std.proofs.Common.{ap}
 use seplogic.Ra.Ura.{Ura}
-use mir.Syntax.{Sym, Ty, ty_struct, tcons, tnil, field}
+use mir.Syntax.{Sym, Ty, ty_struct, tcons, tnil}
 use mir.Val.{Val, WT, has_ty, vstruct, vnil, vcons}
 use types.Logic.{Logic}
 use denote.RattleType.{RattleType}

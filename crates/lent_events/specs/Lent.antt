@@ -1,29 +1,18 @@
 -- The record of a stream behind a reference: it is copied out, and another is stored. While the borrow is open the code owns the record's
 -- cell; it is closed at the record that was stored, which is then the one that the lender reads. Assumes nothing.
-use Rattle.std.specs.Prelude.{◌≡◌, refl, ℕ, List, [], ◌∷◌, get_or}
+use Rattle.std.specs.Prelude.{ℕ, List, [], ◌∷◌}
 use seplogic.Ra.Ura.{Ura}
 use base.Fraction.{full_share}
-use mir.Syntax.{Ty, Body, named, mut, ty_ref, place, field, deref, copy, rv_opd, assign, seq}
+use mir.Syntax.{Ty, named, mut, ty_ref}
 use mir.Val.{Val, vptr}
 use base.Fml.{Lft, Share, GName, Fml, flft, fobs, fauth, fbor, fobor}
-use prog.Wp.{Env, no_local, Calls, Loops}
-use types.Logic.{Logic}
-use types.Kit.{Item, ‵, Post, runs, lands, Seq, ◌$◌, !, move, drop, rewrite, fsplit3}
-use types.Run.{look, look_raw, init, store_raw, stop, hop, fld, from, load, of_opd, assigns, land}
-use types.Part.{whole, sub, look_in}
+use types.Kit.{Item, ‵}
 use types.SemTy.{Body as Lies}
 use denote.Memory.{mem, pointee, cell_at}
-use denote.Laws.{Is, shows}
 use denote.Ref.{MutBor, MutRef}
-use denote.Steps.{opens, closes, owned, peeks}
-use denote.Struct.Steps.{spelt}
-use denote.Struct.Laws as LL
-use Rattle.walks.specs.Steps.{cell, room, script, goes_on}
-use Rattle.walks.proofs.Steps.{at_local}
 use Rattle.events.specs.declared.Stream.{Stream}
 use Rattle.events.specs.contracts.Stream as T
-use Rattle.events.proofs.Stream.TheLaws as T'
-use Rattle.lent_events.specs.Answers.{Answers, stream_val, given_ty, given_val}
+use Rattle.lent_events.specs.Answers.{stream_val}
 
 -- a reference to a record: its lifetime and the share of it that is held, where the record lies, and the name of its last value
 pub record Lent : Type 0 where

@@ -1,39 +1,23 @@
 -- From the walk to contracts: a thin call meets its own where the covered call meets the same of the record by value. A contract speaks
 -- of tokens, result and last values; the covered call gives all but the record's last value, which is the record that was stored.
 -- Assumes nothing.
-use Rattle.std.specs.Prelude.{◌≡◌, refl, List, [], ◌∷◌, ◌++◌}
-use Rattle.std.proofs.Common.{sym, subst, ap, ◌∙◌}
+use Rattle.std.specs.Prelude.{◌≡◌, List, [], ◌∷◌}
 use seplogic.Ra.Ura.{Ura}
-use mir.Syntax.{Callee, named}
 use mir.Val.{Val}
-use base.Logic.{SProp, ent, sep, ex, emp, via, id⊢}
-use base.Fml.{Fml, ftrue, fsep, fres}
-use prog.Wp.{Calls, Loops, WpFn, Tables}
-use types.Logic.{Logic, sem}
-use sound.WpLaws.{FmC, fm_of}
-use contract.Monad.{fact}
-use contract.Lifetimes.{Lfts, Shares, toks}
-use types.Kit.{‵, raw, ◌⊛◌, some, ⋆, ◌$◌, ◌∵◌, !, qed, by, move, drop, use1, split, pick, join, keep, fsplit, fjoin, frame, show, updating, now as at_once, done}
-use denote.RattleType.{Denots, Valss, flat, owns}
-use denote.Laws.{Is, Are, Ises, Spells, Tells, Tellss, valss}
+use types.Logic.{Logic}
+use contract.Lifetimes.{Lfts}
+use denote.RattleType.{Denots, Valss}
+use denote.Laws.{Is, Are, Ises, Spells, Tells, valss}
 use denote.Builtin.{RefMutOf}
 use denote.Exit.{yes}
-use denote.Ref.{mut_vals, mut_Tells}
 use denote.Signature.{Slot, plain, type_at, types_at}
-use denote.Steps.{owned, heard, nothing}
-use denote.Struct.Laws as LL
-use denote.Triple.Clauses.{Ended, Clauses, closing}
-use denote.Triple.End.{all, Fins, Outs, outs, lasts_of}
-use denote.Triple.Spec.{Meets}
+use denote.Triple.Clauses.{Ended, Clauses}
+use denote.Triple.End.{all, Outs}
 use Rattle.walks.specs.Contracts.{Follows}
-use Rattle.walks.proofs.Contracts.{spelled}
 use Rattle.events.specs.declared.Stream.{Stream}
 use Rattle.events.specs.contracts.Stream as T
-use Rattle.events.proofs.Stream.TheLaws as T'
-use Rattle.lent_events.specs.Answers.{Answers, stream_val}
-use Rattle.lent_events.specs.Lent.{Lent, lent_out, ref_val, reference, token, closed}
-use Rattle.lent_events.specs.Params.{Kind, Passed, value, Arguments, passed_values}
-use Rattle.lent_events.specs.Thin.{shape}
+use Rattle.lent_events.specs.Answers.{Answers}
+use Rattle.lent_events.specs.Params.{Kind, Passed, value}
 
 -- A parameter beside the record: its type in a thin call's signature, how the code hands it on, its machine value, and what is passed then.
 pub record Param : Type 2 where
@@ -68,3 +52,12 @@ module _ (ps : List Param) (κs : Lfts 3) (a : Denots (types_at (slots ps) κs))
 -- What a thin call promises: of the record and the others on entry, the answer, the record on exit and the last values of the others.
 abbrev pub Promise : Answers → List Param → Type 1
 Promise F ps = (κs : Lfts 3) → Stream → Denots (types_at (slots ps) κs) → F.answer.Denot → Stream → Outs κs (slots ps) (all yes (slots ps)) → Type 0
+
+module _ (F : Answers) (ps : List Param) where
+  -- its signature
+  abbrev pub thin_ended : Ended
+  thin_ended = record { signature = record { lifetimes = 3; outlives = []; params = RefMutOf (0 ∷ []) tt (plain (λ _. T.the_row)) (λ _. tt) ∷ slots ps; result = plain (λ _. F.answer) }; kept = (yes, all yes (slots ps)) }
+
+  -- that its contract follows from the promise
+  abbrev pub Promised : {M : Type 1} (𝓤 : Ura M) → Promise F ps → Clauses 𝓤 thin_ended → Type 1
+  Promised 𝓤 Says = Follows 𝓤 thin_ended (λ κs a e z. Says κs a.0.now a.1 e z.0.now z.1)

@@ -1,22 +1,15 @@
 -- The parameters of a thin call beside the record, whatever they are: each is handed on to the callee as it is, or, where it is a `&mut`
 -- slice, lent again in a local of its own. What a walk does with a list of locals is said once here, by recursion on the list.
 -- Assumes nothing.
-use Rattle.std.specs.Prelude.{◌≡◌, refl, ℕ, zero, suc, ◌<◌, ◌^◌, List, [], ◌∷◌, ◌++◌, T as Holds, get_or}
+use Rattle.std.specs.Prelude.{◌≡◌, ℕ, zero, suc, ◌<◌, ◌^◌, List, [], ◌∷◌, T as Holds, get_or}
 use seplogic.Ra.Ura.{Ura}
 use base.Fraction.{full_share}
 use mir.Syntax.{Ty, Lifetime, Width, Local, Opd as Operand, Body, erased, mut, ty_int, ty_ref, local, value_local, place, field, deref, copy, addr_of, aggregate, assign, seq}
 use mir.Val.{Val, WT, has_ty, vptr}
-use base.Logic.{ent, via}
 use base.Fml.{ftrue, fat, froom, fdies}
-use prog.Wp.{Env, no_local, Calls, Loops}
-use types.Logic.{Logic}
-use types.Kit.{Item, ‵, ◌⊛◌, ⋆, Post, Goal, runs, allocs, passes, frees, Seq, Step, step, ◌$◌, ◌∵◌, Go, !, qed, move, drop, split, join, done}
-use types.Run.{Opds, look, init, forget, stop, hop, fld, load, addr, and_then, no_more, assigns, alloc1, pass1, pass0, free1}
-use types.Part.{agg, whole, sub, look_in}
+use types.Kit.{Item, ‵, ◌⊛◌}
 use denote.Slice.{slice_val}
-use denote.Steps.{nothing}
-use Rattle.walks.specs.Steps.{slice_ty, script, goes_on}
-use Rattle.walks.proofs.Steps.{at_local}
+use Rattle.walks.specs.Steps.{slice_ty}
 
 -- a parameter of a thin call beside the record: handed on as it is, or a `&mut` slice that is lent again
 pub data Kind : Type 0 where

@@ -1,24 +1,11 @@
 -- The walk of a thin call: the lent record is copied out, the covered call runs on the copy and on the other parameters, the record that it
 -- gave is stored, whatever it answered. So one walk serves all nine calls, whatever the other parameters are. Assumes nothing.
-use Rattle.std.specs.Prelude.{◌≡◌, refl, ℕ, suc, List, [], ◌∷◌, ◌++◌, get_or}
-use seplogic.Ra.Ura.{Ura}
-use mir.Syntax.{Callee, Ty, Fn, local, value_local, place, field, deref, copy, rv_opd, assign, call, seq, return}
-use mir.Val.{Val}
-use base.Logic.{SProp, ent, sep, ex, id⊢}
-use prog.Wp.{no_local, Calls, Loops, WpFn}
-use types.Logic.{Logic, sem}
-use sound.WpLaws.{FmC}
-use types.Kit.{‵, raw, ◌⊛◌, some, later, ⋆, ◌$◌, ◌∵◌, !, qed, by, move, use1, split, pick, await}
-use types.Run.{look, init, stop, load, and_then, returns, enter, alloc1, alloc0, params1, pass1, free0}
-use denote.Laws.{Is}
-use denote.Triple.Call.{calls_from}
-use Rattle.walks.proofs.Steps.{at_local, gone}
-use Rattle.events.specs.declared.Stream.{Stream}
-use Rattle.events.specs.contracts.Stream as T
+use Rattle.std.specs.Prelude.{ℕ, suc, List, [], ◌∷◌, ◌++◌}
+use mir.Syntax.{Callee, Fn, local, value_local, place, field, deref, copy, rv_opd, assign, call, seq, return}
 use Rattle.events.proofs.Stream.TheLaws as T'
-use Rattle.lent_events.specs.Answers.{Answers, stream_val, given_ty}
-use Rattle.lent_events.specs.Lent.{Lent, ref_ty, ref_val, reference, token, closed}
-use Rattle.lent_events.specs.Params.{Kind, Arguments, param_types, fresh_types, param_values, fresh_values, passed_values, locals, past, lends, operands, Blocks, env, At}
+use Rattle.lent_events.specs.Answers.{Answers, given_ty}
+use Rattle.lent_events.specs.Lent.{ref_ty}
+use Rattle.lent_events.specs.Params.{Kind, param_types, fresh_types, locals, past, lends, operands}
 
 -- the locals behind the parameters: the copy of the record, what the covered call gives, and those of the slices that are lent again
 abbrev pub before : List Kind → ℕ
