@@ -1,7 +1,3 @@
--- What the proofs of this crate share.
-pub mod Held
-pub mod Pair
-pub mod Steps
-pub mod Switch
+-- The laws of this crate's promises. Its functions need no proof files.
 pub mod Determined
 pub mod Unopened

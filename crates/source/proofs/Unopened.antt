@@ -1,7 +1,6 @@
 -- A source over the limit is refused by 24 at each scan, and stays as it is. So is one whose opening was refused: it keeps its bytes, and
 -- no call changes them. Assumes nothing.
 use Rattle.std.specs.Prelude.{ℕ, ◌<◌, ◌≡◌, List, length, leb}
-
 use Rattle.std.proofs.Common.{arith, leb-false}
 use Rattle.std.proofs.lemmas.Bool.{lt-leb}
 use Rattle.std.specs.Borrow.{Bor}

@@ -1,5 +1,5 @@
 // A token source: it keeps the rule bytes that it was opened on, a place in them and a mode. Thin calls: each takes the struct apart and
-// hands its reader on. They are proved by walks of their code. The next token stands in `reading`.
+// hands its reader on. The next token stands in `reading`.
 #![tactic(auto)]
 
 ghost use Rattle.std.specs.Prelude.{◌≡◌};

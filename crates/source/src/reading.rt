@@ -1,5 +1,5 @@
-// The next token of a token source. `next` takes the source apart and hands slice, place and mode to the scanner; it is proved by a walk
-// of its code. `next_at` serves callers that want none.
+// The next token of a token source. `next` takes the source apart and hands slice, place and mode to the scanner. `next_at` serves callers
+// that hold the parts.
 ghost use Rattle.std.specs.Prelude.{◌≡◌};
 ghost use Rattle.reader.specs.Reading.{scan_of, scan_told};
 ghost use Rattle.source.specs.Next.{stepped_by, next_of, next_reply, step_reply};
