@@ -1,7 +1,6 @@
 -- Examples that pin the listing's text: numbers, document 01's own example, the empty source.
 -- Each is computed by the definitions themselves. Assumes nothing.
 use Rattle.std.specs.Prelude.{◌≡◌, refl, [], ◌∷◌, map}
-
 use Rattle.tokens.specs.declared.Mode.TheVariants.{Normal}
 use Rattle.tokens.specs.Tokens.{ascii, tables_1}
 use Rattle.tokens.specs.Scan.{list_from, tokens}

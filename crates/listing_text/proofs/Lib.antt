@@ -1,6 +1,7 @@
 -- Theorems about what stands in specs/, in modules of the same names.
-pub mod Listed
+pub mod ListedExamples
 pub mod Turns
+pub mod Ended
 pub mod ListedLaws
 pub mod Examples
 pub mod Put

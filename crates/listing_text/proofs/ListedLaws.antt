@@ -1,17 +1,16 @@
 -- The cases of what `list` answers, from what opening for a listing says; how much room is always enough; and that the contract
 -- leaves no choice. Each is one look at the definition's tests. Assumes nothing.
 use Rattle.std.specs.Prelude.{ℕ, ◌+◌, ◌≤◌, ◌≡◌, refl, Bool, cond, List, ◌++◌, take, drop}
-
 use Rattle.std.proofs.Common.{ap, ◌∙◌, arith, length-append}
 use Rattle.std.proofs.Math.Bool.{true, false}
 use Rattle.std.proofs.Math.ListN.{length}
 use Rattle.std.proofs.Math.Seq.{take-append_seam}
 use Rattle.std.proofs.Math.Dec.{leb}
-use borrow.Author.Tests.{leb-true, le-leb}
+use Rattle.std.proofs.Common.{leb-true, le-leb}
 use Rattle.patterns.specs.Determined.{Once}
 use Rattle.patterns.proofs.Determined.{once}
 use Rattle.refusals.specs.Calls.{Reply, reply}
-use Rattle.refusals.specs.RefusalLaws.{read_refusal, read_back}
+use Rattle.refusals.specs.RefusalLaws.{read_back}
 use Rattle.tokens.specs.declared.Mode.TheVariants.{Normal}
 use Rattle.tokens.specs.Tokens.{tables_1}
 use Rattle.tokens.specs.Scan.{tokens}
@@ -96,7 +95,6 @@ module _ (src out : List ℕ) where
   unfolding listed
   listed_written {n} {o} e =
       front_text (text (tokens tables_1 Normal src)) out (not_refused (leb (length src) source_limit) (at_front (text (tokens tables_1 Normal src)) out) 1 out e)
-
 
 listed_same : (g : Listed) → listed_read (listed_told g) ≡ g
 listed_same (Written n) = refl

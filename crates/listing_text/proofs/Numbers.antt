@@ -1,7 +1,6 @@
 -- The digits of a number: below ten the number itself, else those of its tenth part and then the last one. A number of turns above
 -- the number is enough, and more change nothing. How long the texts are follows from there. Assumes nothing.
 use Rattle.std.specs.Prelude.{ℕ, zero, suc, ◌+◌, ◌*◌, ◌/◌, ◌%◌, ◌^◌, ◌≤◌, ◌<◌, ◌≡◌, refl, List, [], ◌∷◌, ◌++◌, length, ltb}
-
 use Rattle.std.proofs.Common.{ap, ◌∙◌, pow-suc, arith, length-append, ltb-true, ltb-false, lt-ltb, le-ltb}
 use Rattle.patterns.proofs.Bools.{by_test}
 use Rattle.tokens.specs.declared.Token.{Token}

@@ -1,7 +1,6 @@
 -- How long a listing can be. A kind is below 100 and an offset below 100000, so no line has more than 15 bytes; and since no token is
 -- empty, no source has more tokens than bytes. Assumes nothing.
-use Rattle.std.specs.Prelude.{ℕ, ◌+◌, ◌*◌, ◌≤◌, ◌<◌, ◌≡◌, refl, List, [], ◌∷◌, length, leb}
-
+use Rattle.std.specs.Prelude.{ℕ, ◌+◌, ◌*◌, ◌≤◌, ◌≡◌, refl, List, [], ◌∷◌, length, leb}
 use Rattle.std.proofs.Common.{arith, leb-true}
 use Rattle.patterns.specs.Utf8.{between}
 use Rattle.patterns.proofs.Bools.{and_second}

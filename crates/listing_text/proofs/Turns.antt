@@ -1,7 +1,6 @@
 -- What holds at each turn of the loop that writes the lines of some tokens, in rest form: what is done, with what is left, is the whole.
 -- Each turn moves one token from what is left to what is done. Assumes nothing.
 use Rattle.std.specs.Prelude.{ℕ, ◌+◌, ◌≤◌, ◌≡◌, refl, List, [], ◌∷◌}
-
 use Rattle.std.proofs.Math.Path.{sym, ap}
 use Rattle.std.proofs.Common.{◌∙◌, add-zero, arith}
 use Rattle.std.proofs.Math.ListN.{length}

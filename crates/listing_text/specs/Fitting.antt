@@ -1,14 +1,7 @@
 -- Opening a source for a listing, in the reader's values: document 01's refusal 1 first, then 15 where the text is longer than the room.
 -- Assumes nothing.
-use Rattle.std.specs.Prelude.{ℕ, ◌≡◌, refl, true, false, cond, List, length, leb}
-
-use Rattle.std.proofs.Common.{le-leb}
-use Rattle.std.proofs.lemmas.Bool.{lt-leb}
-use Rattle.tokens.specs.Tokens.{ascii}
-use Rattle.tokens.specs.Scan.{list_from}
-use Rattle.reader.specs.declared.Reader.{Reader}
-use Rattle.reader.specs.Reading.{source_limit, Answer, ready, refused, start, open_of}
-use Rattle.reader.proofs.ReaderLaws.{opened_ready, opened_refused}
+use Rattle.std.specs.Prelude.{ℕ, cond, List, length, leb}
+use Rattle.reader.specs.Reading.{source_limit, Answer, ready, refused, start}
 use Rattle.reader.specs.Following.{rest}
 use Rattle.listing_text.specs.Listing.{text}
 

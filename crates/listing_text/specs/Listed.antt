@@ -1,11 +1,10 @@
 -- What a call of `list` answers, and what it leaves in the lent bytes: document 01's refusal 1 first, then 15 where the text has no
 -- room; on a refusal every byte stays. Assumes nothing.
-use Rattle.std.specs.Prelude.{ℕ, ◌≡◌, refl, cond, List, length, leb}
-
+use Rattle.std.specs.Prelude.{ℕ, cond, List, length, leb}
 use Rattle.refusals.specs.Refusals.{number_of}
 use Rattle.refusals.specs.Calls.{Reply, reply}
 use Rattle.tokens.specs.declared.Mode.TheVariants.{Normal}
-use Rattle.tokens.specs.Tokens.{ascii, tables_1}
+use Rattle.tokens.specs.Tokens.{tables_1}
 use Rattle.tokens.specs.Scan.{list_from, tokens}
 use Rattle.reader.specs.Reading.{source_limit}
 use Rattle.listing_text.specs.declared.Listed.{Listed}

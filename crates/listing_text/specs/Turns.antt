@@ -1,12 +1,9 @@
 -- What holds at each turn of the loop that writes the lines of some tokens, in rest form: what is done, with what is left, is the whole.
 -- Each turn moves one token from what is left to what is done. Assumes nothing.
-use Rattle.std.specs.Prelude.{ℕ, ◌+◌, ◌≤◌, ◌≡◌, refl, List, [], ◌∷◌}
-
-use Rattle.std.proofs.Math.Path.{sym, ap}
-use Rattle.std.proofs.Common.{◌∙◌, add-zero, arith}
+use Rattle.std.specs.Prelude.{ℕ, ◌+◌, ◌≤◌, ◌≡◌, List}
 use Rattle.std.proofs.Math.ListN.{length}
 use Rattle.tokens.specs.declared.Token.{Token}
-use Rattle.listing_text.specs.Listing.{line, lines}
+use Rattle.listing_text.specs.Listing.{lines}
 use Rattle.listing_text.specs.Put.{Wrote}
 
 -- the tokens so far; and to write the lines that are left from here on is to write all of them from the start.
