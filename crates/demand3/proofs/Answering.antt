@@ -1,7 +1,6 @@
 -- Once both have fetched, the window answers as the record, and leaves what stands for the record: its marks are the record's in order,
 -- and a token from low on is read back from its slot. And the record stays good, since no call lowers low. Assumes nothing.
 use Prim.Native.Nat.{ℕ, suc, ◌+◌, ◌≤◌}
-
 use Rattle.std.specs.Prelude.{◌≡◌, List, ◌∷◌}
 use Rattle.std.proofs.Math.Path.{refl}
 use Rattle.std.proofs.Math.Bool.{true}

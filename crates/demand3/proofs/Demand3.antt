@@ -1,15 +1,13 @@
 -- Demand 3: the window answers as the record that never drops a token, up to the first refusal for token room, which comes exactly
 -- where a call would outnumber the slots; and more room changes no answer given before it. Assumes nothing.
-use Rattle.std.specs.Prelude.{ℕ, ◌≤◌, ◌≡◌, refl, true, false, ◌⊎◌, ◌↔◌, length}
-
+use Rattle.std.specs.Prelude.{ℕ, ◌≤◌, refl, length}
 use Rattle.std.proofs.Common.{inl, inr}
 use mathlib.Core.List.{List, [], ◌∷◌}
 use Rattle.patterns.proofs.Bools.{by_test}
 use Rattle.refusals.specs.Calls.{run}
 use Rattle.reader.specs.Reading.{source_limit}
-use Rattle.token_record.specs.Record.{Call, Answer, refused, Record, opened, whole, outnumbers, bounded}
+use Rattle.token_record.specs.Record.{Call, Record, opened, whole, outnumbers, bounded}
 use Rattle.token_room.specs.Room.{slots_in}
-use Rattle.window.specs.Window.{start, step}
 use Rattle.demand3.proofs.Simulation.{simulated}
 use Rattle.demand3.proofs.Slots.{refused_where, more_slots}
 use Rattle.demand3.specs.Demand3.{Demand3, Exactly, Same_until_2}

@@ -1,7 +1,6 @@
 -- The window fetches what the record fetches, since both take the tokens ahead of the same reader; and a fetch after which no more
 -- tokens are kept than there are slots leaves a good record. A call that wants none fetches none. Assumes nothing.
 use Rattle.std.specs.Prelude.{ℕ, ◌+◌, ◌-◌, ◌≤◌, ◌<◌, ◌≡◌, false, List, [], ◌∷◌, ◌++◌, length, leb}
-
 use Rattle.std.proofs.Math.Path.{refl}
 use Rattle.std.proofs.Common.{ap, arith, ltb-false, leb-false}
 use Rattle.std.proofs.Math.ListN.{length-append}
@@ -67,7 +66,6 @@ module _ (src : List ℕ) (n : ℕ) (r : Record) where
           few = g.few;
           room = rw fetch_grown at h;
         })
-
 
 pub overfull_of : (src room : List ℕ) (c : Call) (r : Record)
     → of_window.overfull c (of_window.fetch src (wants c) (state_of src room r)) ≡ outnumbers (slots_in (length room)) src c r

@@ -1,11 +1,9 @@
 -- Low, the smaller of the current index and the least bookmark, is never lowered: a call moves the current index on or to a bookmark,
 -- sets a bookmark there, or takes one away. And a list of bookmarks not above a number stays so. Assumes nothing.
 use Rattle.std.specs.Prelude.{ℕ, ◌≤◌, ◌≡◌, true, List, [], ◌∷◌, eqb}
-
 use Rattle.std.proofs.lemmas.Bool.{false≢true}
 use Rattle.std.proofs.Common.{le_trans, arith, eqb-true}
 use Rattle.patterns.proofs.Bools.{by_test}
-use Rattle.patterns.specs.Lists.{All}
 use Rattle.tokens.specs.declared.TokenIndex.{TokenIndex}
 use Rattle.token_record.specs.Record.{member, without, least}
 use Rattle.demand3.specs.Lowest.{Below}

@@ -1,7 +1,6 @@
 -- The window that stands for a record goes, by a call, to the window that stands for the record with so many slots after that call,
 -- with the same answer; so it does by any calls one after the other. Assumes nothing.
 use Rattle.std.specs.Prelude.{ℕ, ◌≤◌, ◌≡◌, length}
-
 use Rattle.std.proofs.Math.Path.{refl}
 use Rattle.std.proofs.Common.{ap}
 use mathlib.Core.List.{List, [], ◌∷◌}
@@ -45,7 +44,6 @@ module _ (src room : List ℕ) where
   unfolding after_all
   after_of [] r g = refl
   after_of (c ∷ cs) r g = rw (step_of c r g) (after_of cs (bounded slots src c r).after (step_good c r g))
-
 
 module _ (src room : List ℕ) (cs : List Call) (h : length src ≤ source_limit) where
   -- the window answers as the record with as many slots, past a refusal too

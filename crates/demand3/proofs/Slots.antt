@@ -1,7 +1,6 @@
 -- The record with so many slots: it refuses by 2 exactly where a call would outnumber them, since no call of the record itself answers
 -- so; and what does not outnumber some slots does not outnumber more. Assumes nothing.
 use Rattle.std.specs.Prelude.{ℕ, ◌+◌, ◌≤◌, ◌≡◌, Bool, ◌&&◌, ◌↔◌, List, [], ◌∷◌, length, drop, leb}
-
 use Rattle.std.proofs.Math.Path.{refl}
 use Rattle.std.proofs.Math.Bool.{true, false}
 use Rattle.std.proofs.Common.{le_trans, arith}

@@ -1,7 +1,6 @@
 -- The window keeps in order the bookmarks that the record keeps in no order. To insert each in turn puts a list in order, and changes
 -- neither how many there are, which are members, nor the least; and taking one away may come before or after. Assumes nothing.
 use Rattle.std.specs.Prelude.{ℕ, suc, min, ◌≤◌, ◌<◌, ◌≡◌, refl, Bool, false, ◌||◌, length, eqb, leb, ltb}
-
 use Rattle.std.proofs.Common.{zero-le, ◌∙◌, arith}
 use Rattle.std.proofs.Math.Path.{sym, ap}
 use Rattle.std.proofs.Math.Bool.{true}

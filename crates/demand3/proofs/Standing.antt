@@ -1,24 +1,18 @@
 -- Which window and room stand for a record: the bookmarks in order, the reader where the last token ends, and the tokens written one
 -- after the other into the room lent at first. Of a good record it is a state that calls take. Assumes nothing.
 use Rattle.std.specs.Prelude.{ℕ, ◌≤◌, ◌≡◌, refl, true, List, length}
-
 use Rattle.std.proofs.Common.{zero-le, arith}
-use Rattle.tokens.specs.Scan.{ends}
-use Rattle.reader.specs.declared.Reader.{Reader}
 use Rattle.reader.specs.Reading.{source_limit}
-use Rattle.token_record.specs.Record.{Reply, reply, Record, opened, kept, bookmark_limit}
-use Rattle.token_room.specs.Room.{slots_in, nth, write_all}
-use Rattle.bookmarks.specs.Bookmarks.{padded}
-use Rattle.window.specs.declared.Window.{Window}
+use Rattle.token_record.specs.Record.{Record, opened, kept}
+use Rattle.token_room.specs.Room.{slots_in, write_all}
 use Rattle.window.specs.Window.{State, state, start, sound, marks}
 use Rattle.window.specs.Window as of_window
 use Rattle.window.specs.SoundLaws.{fit_sound}
 use Rattle.bookmarks.specs.HeldLaws.{padded_take, padded_held}
 use Rattle.token_room.specs.RoomLaws.{length_write_all}
-use Rattle.demand3.specs.Lowest.{Below}
 use Rattle.demand3.specs.Sorting.{sorted}
 use Rattle.demand3.proofs.Sorting.{length_sorted, least_sorted, order_sorted}
-use Rattle.demand3.specs.Standing.{Good, reader_of, reply_of, state_of, window_of}
+use Rattle.demand3.specs.Standing.{Good, state_of}
 
 pub start_of : (src room : List ℕ) → start src room ≡ state_of src room opened
 unfolding sorted write_all
