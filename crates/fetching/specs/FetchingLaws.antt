@@ -1,5 +1,4 @@
--- Laws of fetching. To store one token and then those ahead of the reader behind it is to store all; how many tokens are left says
--- whether those ahead are more than are spare; and the cases of the answer. Each is one scan, or one look at the tests. Assumes nothing.
+-- Fetching under way: what storing comes to, and counting down; and the answer, read back from what it is told by. Assumes nothing.
 use Rattle.std.specs.Prelude.{ℕ, ◌+◌, ◌≤◌, ◌≡◌, List, length}
 use Rattle.refusals.specs.RefusalLaws.{read_refusal}
 use Rattle.reader.specs.declared.Reader.{Reader}

@@ -1,5 +1,4 @@
--- One scan after the other. At the end no token is ahead of a reader; else the token that a scan finds, and those that are ahead of
--- the reader behind it. From the scanner's promise and the laws of the definition's scan. Assumes nothing.
+-- One scan after the other: the source and reader that a scan takes, what its answer says, and the tokens that are left. Assumes nothing.
 use Prim.Native.Nat.{ℕ, ◌≤◌, ◌<◌}
 use Rattle.std.specs.Prelude.{◌≡◌, List, [], ◌∷◌, length}
 use Rattle.tokens.specs.declared.Token.{Token}

@@ -1,5 +1,4 @@
--- The cases of opening a reader: ready or refused. Those of a scan: refused, or the definition's scan, which is at the end or finds a
--- token; the tests of 24 come first. And no two answers are told alike, so that the promises leave no choice. Assumes nothing.
+-- The answers of opening and of a scan, read back from what they are told by. Assumes nothing.
 use Rattle.refusals.specs.RefusalLaws.{read_refusal}
 use Rattle.reader.specs.declared.Opened.{Opened}
 use Rattle.reader.specs.declared.Opened.TheVariants as of_opened

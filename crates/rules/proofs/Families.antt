@@ -13,8 +13,6 @@ use Rattle.rules.specs.First.{only, spacing, hex_start, kinds_of, first_kinds, F
 use Rattle.rules.proofs.First.{by_first}
 use Rattle.rules.specs.Families.{Suffice, number_rules, spacing_rules, word_rules}
 
--- The families.
-
 module _ {s : List ℕ} {at b : ℕ} (p : First s at b) where
   suffice : (m : Mode) (ks : List ℕ) (rs : List Rule) → only ks (rules tables_1 m) ≡ rs → first_kinds m b ≡ ks → Suffice m s at rs
   suffice m ks rs e f = sym (by_first m p ∙ ap (λ (ks : List ℕ). best (only ks (rules tables_1 m)) (drop at s)) f ∙ ap (λ (rs : List Rule). best rs (drop at s)) e)

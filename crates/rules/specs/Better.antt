@@ -1,5 +1,4 @@
--- Lists of rules put together: the longest match of both is the better of the two. `better` keeps the first of the longest, so it
--- does not matter how it is grouped. Assumes nothing.
+-- Which of two hits is taken: the first, or the other where the first is none or shorter. Assumes nothing.
 use Rattle.std.specs.Prelude.{◌≤◌, ◌<◌}
 use Rattle.tokens.specs.declared.Hit.{Hit}
 

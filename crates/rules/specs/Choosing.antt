@@ -1,5 +1,4 @@
--- From the longest match of a mode to the token: each law is one clause of the definition, read at a place of a source.
--- Assumes nothing.
+-- What is taken where no rule matches and the text is well-formed. Assumes nothing.
 use Prim.Native.Nat.{ℕ, max}
 use Rattle.std.specs.Prelude.{List}
 use Rattle.patterns.specs.Pattern.{longest}

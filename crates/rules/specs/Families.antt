@@ -1,5 +1,4 @@
--- What is left of a mode's rules at a first byte: a short list for each family of bytes, in the order of the rules. Each line is
--- computed; `suffice` carries it to a place of a source. Assumes nothing.
+-- A short list of rules for each family of first bytes, in the order of the rules. Assumes nothing.
 use Rattle.std.specs.Prelude.{ℕ, ◌≡◌, List, [], ◌∷◌, ◌++◌, map, drop}
 use Rattle.patterns.specs.Pattern.{byte, char}
 use Rattle.tokens.specs.declared.Mode.{Mode}
@@ -7,8 +6,6 @@ use Rattle.tokens.specs.Kinds.{PATTERN_LENGTH, IDENT, FLOAT_LIT, INTEGER_LIT, ST
 use Rattle.tokens.specs.Unicode.{digits_16}
 use Rattle.tokens.specs.Tokens.{Rule, rule, spelled, tables_1, words_1, operators, pattern_word, identifier, float, integer, string, multi_line_string, regexp, block_comment, line_comment, blanks, newlines}
 use Rattle.tokens.specs.Scan.{best, rules}
-
--- The families.
 
 abbrev pub spacing_rules : List Rule
 spacing_rules = rule WHITESPACE blanks ∷ map spelled newlines

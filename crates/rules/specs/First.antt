@@ -1,5 +1,4 @@
--- Which rules can start with which byte. That all others are dead at a first byte is one test, computed over the 256 bytes and the
--- rules of each mode; a rule that is dead there matches nothing, so it may be left out. Past the end none matches. Assumes nothing.
+-- Which rules can start with which byte, in each mode, and whether all the others are dead there. Assumes nothing.
 use Rattle.std.specs.Prelude.{ℕ, ◌<◌, Bool, true, false, cond, ◌&&◌, ◌||◌, List, [], ◌∷◌, map, leb, eqb}
 use Rattle.patterns.specs.Utf8.{Class}
 use Rattle.patterns.specs.Pattern.{is_nothing, deriv}

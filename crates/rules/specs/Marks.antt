@@ -1,5 +1,4 @@
--- The words behind `$`, `#`, `@` and `!`: a mark, and then a tail, which may be empty. One law for the four.
--- Assumes nothing.
+-- The words behind `$`, `#`, `@` and `!`: a mark, and then a tail, which may be empty. Assumes nothing.
 use Rattle.std.specs.Prelude.{ℕ, ◌+◌, ◌≡◌, List, drop}
 use Rattle.patterns.specs.Pattern.{longest}
 use Rattle.tokens.specs.declared.Hit.{Hit}

@@ -23,12 +23,15 @@ returns-then-src-at-2 c =
     at_end a.src.now a.self (omega arith) c.if-src-at-2.true
 
 pub overflow_add-end : goal.overflow_add-end
-overflow_add-end c = omega (arith, (choice_within tables_1 c.args.src.now c.args.self.place.0 c.args.self.mode c.taken-choice.result (omega arith) c.taken-choice.ensures))
+overflow_add-end c =
+    omega (arith, (choice_within tables_1 c.args.src.now c.args.self.place.0 c.args.self.mode c.taken-choice.result (omega arith) c.taken-choice.ensures))
 
 pub overflow_cast-end : goal.overflow_cast-end
-overflow_cast-end c = omega (arith, (choice_within tables_1 c.args.src.now c.args.self.place.0 c.args.self.mode c.taken-choice.result (omega arith) c.taken-choice.ensures))
+overflow_cast-end c =
+    omega (arith, (choice_within tables_1 c.args.src.now c.args.self.place.0 c.args.self.mode c.taken-choice.result (omega arith) c.taken-choice.ensures))
 
 pub returns : goal.returns
 returns c =
     let a = c.args in
-    ap moved (scan_chosen tables_1 a.src.now a.self.place.0 a.self.mode c.taken-choice.result (omega arith) c.taken-choice.ensures) ∙ within a.src.now a.self (omega arith) (omega arith)
+    ap moved (scan_chosen tables_1 a.src.now a.self.place.0 a.self.mode c.taken-choice.result (omega arith) c.taken-choice.ensures)
+    ∙ within a.src.now a.self (omega arith) (omega arith)

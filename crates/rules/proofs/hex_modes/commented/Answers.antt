@@ -10,4 +10,6 @@ use Rattle.rules.proofs.hex_modes.commented.Goals as goal
 pub returns : goal.returns
 returns c =
     let a = c.args in
-    of_both a.src.now a.at (rule COMMENT (block_comment char) ∷ []) (rule COMMENT line_comment ∷ []) c.longer.ensures (of_rule a.src.now a.at COMMENT (block_comment char) c.one-block.ensures c.block_comment_of_chars-end.ensures) (of_rule a.src.now a.at COMMENT line_comment c.one-line.ensures c.line_comment.ensures)
+    of_both a.src.now a.at (rule COMMENT (block_comment char) ∷ []) (rule COMMENT line_comment ∷ []) c.longer.ensures
+    (of_rule a.src.now a.at COMMENT (block_comment char) c.one-block.ensures c.block_comment_of_chars-end.ensures)
+    (of_rule a.src.now a.at COMMENT line_comment c.one-line.ensures c.line_comment.ensures)

@@ -10,12 +10,17 @@ use Rattle.rules.proofs.Families.{at_spacing, at_jump_integer, at_jump_operator}
 use Rattle.rules.proofs.hex_modes.jump.Goals as goal
 
 pub returns-then-is_spacing : goal.returns-then-is_spacing
-returns-then-is_spacing c = c.spacing.ensures ∙ at_spacing (first_byte c.byte_at-b.ensures (omega arith)) HexJump (sym c.is_spacing.ensures ∙ c.if-is_spacing.true)
+returns-then-is_spacing c =
+    c.spacing.ensures
+    ∙ at_spacing (first_byte c.byte_at-b.ensures (omega arith)) HexJump (sym c.is_spacing.ensures ∙ c.if-is_spacing.true)
 
 pub returns-then-is_dec : goal.returns-then-is_dec
 returns-then-is_dec c =
     let a = c.args in
-    of_rule a.src.now a.at INTEGER_LIT jump_integer c.one.ensures c.jump_integer.ensures ∙ at_jump_integer (first_byte c.byte_at-b.ensures (omega arith)) (sym c.is_spacing.ensures ∙ c.if-is_spacing.false) (sym c.is_dec.ensures ∙ c.if-is_dec.true)
+    of_rule a.src.now a.at INTEGER_LIT jump_integer c.one.ensures c.jump_integer.ensures
+    ∙ at_jump_integer (first_byte c.byte_at-b.ensures (omega arith)) (sym c.is_spacing.ensures ∙ c.if-is_spacing.false) (sym c.is_dec.ensures ∙ c.if-is_dec.true)
 
 pub returns : goal.returns
-returns c = c.jump_operator.ensures ∙ at_jump_operator (first_byte c.byte_at-b.ensures (omega arith)) (sym c.is_spacing.ensures ∙ c.if-is_spacing.false) (sym c.is_dec.ensures ∙ c.if-is_dec.false)
+returns c =
+    c.jump_operator.ensures
+    ∙ at_jump_operator (first_byte c.byte_at-b.ensures (omega arith)) (sym c.is_spacing.ensures ∙ c.if-is_spacing.false) (sym c.is_dec.ensures ∙ c.if-is_dec.false)

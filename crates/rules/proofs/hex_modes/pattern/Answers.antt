@@ -13,16 +13,23 @@ use Rattle.rules.proofs.Families.{exact, at_spacing, at_hex, at_pattern_operator
 use Rattle.rules.proofs.hex_modes.pattern.Goals as goal
 
 pub returns-then-is_spacing : goal.returns-then-is_spacing
-returns-then-is_spacing c = c.spacing.ensures ∙ at_spacing (first_byte c.byte_at-b.ensures (omega arith)) HexPattern (sym c.is_spacing.ensures ∙ c.if-is_spacing.true)
+returns-then-is_spacing c =
+    c.spacing.ensures
+    ∙ at_spacing (first_byte c.byte_at-b.ensures (omega arith)) HexPattern (sym c.is_spacing.ensures ∙ c.if-is_spacing.true)
 
 pub returns-then-is_hex_or_mark-b : goal.returns-then-is_hex_or_mark-b
 returns-then-is_hex_or_mark-b c =
     let a = c.args in
-    of_rule a.src.now a.at HEX_BYTE hex_byte c.one.ensures c.hex_byte.ensures ∙ at_hex (first_byte c.byte_at-b.ensures (omega arith)) (sym c.is_spacing.ensures ∙ c.if-is_spacing.false) ((ap (λ (t : Bool). t || eqb c.byte_at-b.result 126) (sym c.is_hex_or_mark.ensures)) ∙ c.if-is_hex_or_mark-b.true)
+    of_rule a.src.now a.at HEX_BYTE hex_byte c.one.ensures c.hex_byte.ensures
+    ∙ at_hex (first_byte c.byte_at-b.ensures (omega arith)) (sym c.is_spacing.ensures ∙ c.if-is_spacing.false) ((ap (λ (t : Bool). t || eqb c.byte_at-b.result 126) (sym c.is_hex_or_mark.ensures)) ∙ c.if-is_hex_or_mark-b.true)
 
 pub returns-then-b-eq47 : goal.returns-then-b-eq47
 unfolding first_kinds rules
-returns-then-b-eq47 c = c.commented.ensures ∙ exact (first_byte c.byte_at-b.ensures (omega arith)) HexPattern 47 comment_rules refl c.if-b-eq47.true
+returns-then-b-eq47 c =
+    c.commented.ensures
+    ∙ exact (first_byte c.byte_at-b.ensures (omega arith)) HexPattern 47 comment_rules refl c.if-b-eq47.true
 
 pub returns : goal.returns
-returns c = c.pattern_operator.ensures ∙ at_pattern_operator (first_byte c.byte_at-b.ensures (omega arith)) (sym c.is_spacing.ensures ∙ c.if-is_spacing.false) ((ap (λ (t : Bool). t || eqb c.byte_at-b.result 126) (sym c.is_hex_or_mark.ensures)) ∙ c.if-is_hex_or_mark-b.false) c.if-b-eq47.false
+returns c =
+    c.pattern_operator.ensures
+    ∙ at_pattern_operator (first_byte c.byte_at-b.ensures (omega arith)) (sym c.is_spacing.ensures ∙ c.if-is_spacing.false) ((ap (λ (t : Bool). t || eqb c.byte_at-b.result 126) (sym c.is_hex_or_mark.ensures)) ∙ c.if-is_hex_or_mark-b.false) c.if-b-eq47.false

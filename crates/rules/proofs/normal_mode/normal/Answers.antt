@@ -16,16 +16,23 @@ use Rattle.rules.proofs.Marks.{starts, pattern_hit}
 use Rattle.rules.proofs.normal_mode.normal.Goals as goal
 
 pub returns-then-is_spacing : goal.returns-then-is_spacing
-returns-then-is_spacing c = c.spacing.ensures ∙ at_spacing (first_byte c.byte_at-b.ensures (omega arith)) Normal (sym c.is_spacing.ensures ∙ c.if-is_spacing.true)
+returns-then-is_spacing c =
+    c.spacing.ensures
+    ∙ at_spacing (first_byte c.byte_at-b.ensures (omega arith)) Normal (sym c.is_spacing.ensures ∙ c.if-is_spacing.true)
 
 pub word-requires : goal.word-requires
-word-requires c = starts word_start refl (first_byte c.byte_at-b.ensures (omega arith)) (sym c.is_word_start.ensures ∙ c.if-is_word_start.true)
+word-requires c =
+    starts word_start refl (first_byte c.byte_at-b.ensures (omega arith)) (sym c.is_word_start.ensures ∙ c.if-is_word_start.true)
 
 pub returns-then-is_word_start : goal.returns-then-is_word_start
-returns-then-is_word_start c = c.word.ensures ∙ at_word (first_byte c.byte_at-b.ensures (omega arith)) (sym c.is_spacing.ensures ∙ c.if-is_spacing.false) (sym c.is_word_start.ensures ∙ c.if-is_word_start.true)
+returns-then-is_word_start c =
+    c.word.ensures
+    ∙ at_word (first_byte c.byte_at-b.ensures (omega arith)) (sym c.is_spacing.ensures ∙ c.if-is_spacing.false) (sym c.is_word_start.ensures ∙ c.if-is_word_start.true)
 
 pub returns-then-is_dec : goal.returns-then-is_dec
-returns-then-is_dec c = c.number.ensures ∙ at_number (first_byte c.byte_at-b.ensures (omega arith)) (sym c.is_spacing.ensures ∙ c.if-is_spacing.false) (sym c.is_word_start.ensures ∙ c.if-is_word_start.false) (sym c.is_dec.ensures ∙ c.if-is_dec.true)
+returns-then-is_dec c =
+    c.number.ensures
+    ∙ at_number (first_byte c.byte_at-b.ensures (omega arith)) (sym c.is_spacing.ensures ∙ c.if-is_spacing.false) (sym c.is_word_start.ensures ∙ c.if-is_word_start.false) (sym c.is_dec.ensures ∙ c.if-is_dec.true)
 
 pub returns-then-b-eq34 : goal.returns-then-b-eq34
 unfolding first_kinds rules
@@ -42,7 +49,8 @@ pub returns-then-b-eq36 : goal.returns-then-b-eq36
 unfolding first_kinds rules
 returns-then-b-eq36 c =
     let p : First c.args.src.now c.args.at c.byte_at-b.result = first_byte c.byte_at-b.ensures (omega arith) in
-    pattern_hit p PATTERN_IDENT 36 "$" refl refl c.if-b-eq36.true c.marked.ensures ∙ exact p Normal 36 (rule PATTERN_IDENT (pattern_word "$" digits_16) ∷ []) refl c.if-b-eq36.true
+    pattern_hit p PATTERN_IDENT 36 "$" refl refl c.if-b-eq36.true c.marked.ensures
+    ∙ exact p Normal 36 (rule PATTERN_IDENT (pattern_word "$" digits_16) ∷ []) refl c.if-b-eq36.true
 
 pub marked-requires-then-b-eq35 : goal.marked-requires-then-b-eq35
 marked-requires-then-b-eq35 c = inside c.byte_at-b.ensures (λ e. omega arith)
@@ -51,7 +59,8 @@ pub returns-then-b-eq35 : goal.returns-then-b-eq35
 unfolding first_kinds rules
 returns-then-b-eq35 c =
     let p : First c.args.src.now c.args.at c.byte_at-b.result = first_byte c.byte_at-b.ensures (omega arith) in
-    pattern_hit p PATTERN_COUNT 35 "#" refl refl c.if-b-eq35.true c.marked-then-b-eq35.ensures ∙ exact p Normal 35 (rule PATTERN_COUNT (pattern_word "#" digits_16) ∷ []) refl c.if-b-eq35.true
+    pattern_hit p PATTERN_COUNT 35 "#" refl refl c.if-b-eq35.true c.marked-then-b-eq35.ensures
+    ∙ exact p Normal 35 (rule PATTERN_COUNT (pattern_word "#" digits_16) ∷ []) refl c.if-b-eq35.true
 
 pub marked-requires-then-b-eq64 : goal.marked-requires-then-b-eq64
 marked-requires-then-b-eq64 c = inside c.byte_at-b.ensures (λ e. omega arith)
@@ -60,7 +69,8 @@ pub returns-then-b-eq64 : goal.returns-then-b-eq64
 unfolding first_kinds rules
 returns-then-b-eq64 c =
     let p : First c.args.src.now c.args.at c.byte_at-b.result = first_byte c.byte_at-b.ensures (omega arith) in
-    pattern_hit p PATTERN_OFFSET 64 "@" refl refl c.if-b-eq64.true c.marked-then-b-eq64.ensures ∙ exact p Normal 64 (rule PATTERN_OFFSET (pattern_word "@" digits_16) ∷ []) refl c.if-b-eq64.true
+    pattern_hit p PATTERN_OFFSET 64 "@" refl refl c.if-b-eq64.true c.marked-then-b-eq64.ensures
+    ∙ exact p Normal 64 (rule PATTERN_OFFSET (pattern_word "@" digits_16) ∷ []) refl c.if-b-eq64.true
 
 pub marked-requires-then-b-eq33 : goal.marked-requires-then-b-eq33
 marked-requires-then-b-eq33 c = inside c.byte_at-b.ensures (λ e. omega arith)

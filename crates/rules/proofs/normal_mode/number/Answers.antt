@@ -9,4 +9,6 @@ use Rattle.rules.proofs.normal_mode.number.Goals as goal
 pub returns : goal.returns
 returns c =
     let a = c.args in
-    of_both a.src.now a.at (rule FLOAT_LIT float ∷ []) (rule INTEGER_LIT integer ∷ []) c.longer.ensures (of_rule a.src.now a.at FLOAT_LIT float c.one-float.ensures c.number-ends.ensures.1) (of_rule a.src.now a.at INTEGER_LIT integer c.one-integer.ensures c.number-ends.ensures.0)
+    of_both a.src.now a.at (rule FLOAT_LIT float ∷ []) (rule INTEGER_LIT integer ∷ []) c.longer.ensures
+    (of_rule a.src.now a.at FLOAT_LIT float c.one-float.ensures c.number-ends.ensures.1)
+    (of_rule a.src.now a.at INTEGER_LIT integer c.one-integer.ensures c.number-ends.ensures.0)

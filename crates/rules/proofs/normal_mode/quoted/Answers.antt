@@ -9,4 +9,6 @@ use Rattle.rules.proofs.normal_mode.quoted.Goals as goal
 pub returns : goal.returns
 returns c =
     let a = c.args in
-    of_both a.src.now a.at (rule STRING_LIT string ∷ []) (rule STRING_LIT multi_line_string ∷ []) c.longer.ensures (of_rule a.src.now a.at STRING_LIT string c.one-short.ensures c.string.ensures) (of_rule a.src.now a.at STRING_LIT multi_line_string c.one-long.ensures c.multi_line_string.ensures)
+    of_both a.src.now a.at (rule STRING_LIT string ∷ []) (rule STRING_LIT multi_line_string ∷ []) c.longer.ensures
+    (of_rule a.src.now a.at STRING_LIT string c.one-short.ensures c.string.ensures)
+    (of_rule a.src.now a.at STRING_LIT multi_line_string c.one-long.ensures c.multi_line_string.ensures)

@@ -10,4 +10,8 @@ use Rattle.rules.proofs.normal_mode.slashed.Goals as goal
 pub returns : goal.returns
 returns c =
     let a = c.args in
-    of_both a.src.now a.at (rule REGEXP regexp ∷ []) (rule COMMENT (block_comment byte) ∷ rule COMMENT line_comment ∷ []) c.longer-2.ensures (of_rule a.src.now a.at REGEXP regexp c.one-regexp.ensures c.regexp.ensures) (of_both a.src.now a.at (rule COMMENT (block_comment byte) ∷ []) (rule COMMENT line_comment ∷ []) c.longer.ensures (of_rule a.src.now a.at COMMENT (block_comment byte) c.one-block.ensures c.block_comment.ensures) (of_rule a.src.now a.at COMMENT line_comment c.one-line.ensures c.line_comment.ensures))
+    of_both a.src.now a.at (rule REGEXP regexp ∷ []) (rule COMMENT (block_comment byte) ∷ rule COMMENT line_comment ∷ []) c.longer-2.ensures
+    (of_rule a.src.now a.at REGEXP regexp c.one-regexp.ensures c.regexp.ensures)
+    (of_both a.src.now a.at (rule COMMENT (block_comment byte) ∷ []) (rule COMMENT line_comment ∷ []) c.longer.ensures
+    (of_rule a.src.now a.at COMMENT (block_comment byte) c.one-block.ensures c.block_comment.ensures)
+    (of_rule a.src.now a.at COMMENT line_comment c.one-line.ensures c.line_comment.ensures))

@@ -9,4 +9,5 @@ use Rattle.rules.proofs.spacing.spacing.Goals as goal
 pub returns : goal.returns
 returns c =
     let a = c.args in
-    of_both a.src.now a.at (rule WHITESPACE blanks ∷ []) (map spelled newlines) c.longer.ensures (of_rule a.src.now a.at WHITESPACE blanks c.one-blanks.ensures c.blanks.ensures) c.newline.ensures
+    of_both a.src.now a.at (rule WHITESPACE blanks ∷ []) (map spelled newlines) c.longer.ensures
+    (of_rule a.src.now a.at WHITESPACE blanks c.one-blanks.ensures c.blanks.ensures) c.newline.ensures
