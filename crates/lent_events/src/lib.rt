@@ -1,5 +1,5 @@
 // The event stream's calls on a stream whose record is lent: each updates that record itself. Thin: the method of the same name does the
-// work on a copy of the record, and what it gives is stored, refused or not. All nine are proved by one walk of the code (specs/).
+// work on a copy of the record, and what it gives is stored, refused or not. All nine are proved by one walk of the code (proofs/Thin).
 #![tactic(auto)]
 
 mod marking;
