@@ -12,8 +12,7 @@ use Rattle.refusals.specs.declared.DoneAnswer.{DoneAnswer}
 use Rattle.refusals.specs.declared.DoneAnswer.TheVariants.{Done, Refused}
 use Rattle.refusals.specs.declared.Refusal.{Refusal}
 use Rattle.scripts.specs.Scripts.{calls_of}
-use Rattle.scripts.specs.Running.{Noted}
-use Rattle.scripts.specs.Running.{ran}
+use Rattle.scripts.specs.Running.{Noted, ran}
 use Rattle.scripts.proofs.Running.{ran_all}
 use Rattle.reader.specs.Reading.{source_limit}
 use Rattle.token_record.specs.Record.{done, refused, Reply, reply}

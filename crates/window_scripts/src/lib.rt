@@ -3,8 +3,7 @@
 
 ghost use Rattle.std.specs.Prelude.{◌+◌, ◌*◌, ◌≤◌, ◌≡◌, length};
 ghost use Rattle.std.proofs.lemmas.List.Edits.{sets};
-ghost use Rattle.scripts.specs.Running.{Noted};
-ghost use Rattle.scripts.specs.Running.{ran};
+ghost use Rattle.scripts.specs.Running.{Noted, ran};
 ghost use Rattle.token_record.specs.Record.{reply};
 ghost use Rattle.window.specs.Window.{state, step, done_told};
 ghost use Rattle.window_scripts.specs.Asking.{call_of, form, told_numbers};
