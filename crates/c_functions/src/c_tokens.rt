@@ -13,13 +13,7 @@ use tokens::{Mode, Offset, TokenIndex};
 // The tokens of a source from a place on, in a mode: 0 normal, 1 pattern, 2 jump. Kind, start and end of each are written to `out`, and how
 // many they are to `count`. Answers 0; or 1 where the source is over the limit, then 24 where the number is no mode's or the place past
 // the source, then 15 where `out` is too short, and changes nothing that is lent.
-pub fn rattle_tokens(
-    src: &[u8],
-    place: u32,
-    mode: u32,
-    out: &mut [u32],
-    count: &mut u32,
-) -> u32
+pub fn rattle_tokens(src: &[u8], place: u32, mode: u32, out: &mut [u32], count: &mut u32) -> u32
     ensures { reply result (lent out.new count.new) ≡ tokens_at src.now place mode out.old count.old }
 {
     if reader::SOURCE_LIMIT < src.len() {
