@@ -1,5 +1,5 @@
 // What an editor or a build tool does with a rule file: it walks all tokens, and writes each that is neither blank nor comment.
-// The loop's proof, to copy for a loop of one's own: proofs/walk/Proof.antt.
+// The loop's proof, to copy for a loop of one's own: proofs/walk.
 #![tactic(auto)]
 
 ghost use Rattle.std.specs.Prelude.{◌≤◌, length, IfOk};
