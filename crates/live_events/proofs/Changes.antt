@@ -1,7 +1,6 @@
 -- What is stored after a call is all that it changes: stored over the numbers of the record before, it gives those of the record after.
 -- Each call's case by the definition; where it keeps events or open nodes, the record counts those that the rooms hold. Assumes nothing.
 use Rattle.std.specs.Prelude.{◌+◌, ◌≡◌, not, length, eqb}
-
 use Rattle.std.proofs.Math.Path.{refl}
 use mathlib.Core.List.{List, [], ◌∷◌}
 use Rattle.std.proofs.lemmas.Bool.{not-false}
@@ -49,4 +48,3 @@ module _ (s : State) where
   whole c =
       either_way refused s (answered c s) (Whole c) ((not (sound s), 24) ∷ []) (λ n. refl)
       (λ f. answered_whole (fit s refl (not-false (sound s) f.0)) c)
-

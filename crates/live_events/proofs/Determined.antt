@@ -1,7 +1,6 @@
 -- The promises leave no choice: two results of a call that satisfy its contract are equal, with every lent number. For the answers can be
 -- read back from document 01's values, and what is lent stands in the promise. Assumes nothing.
 use Rattle.std.specs.Prelude.{ℕ, ◌≡◌, List}
-
 use Rattle.std.proofs.Common.{ap}
 use Rattle.patterns.specs.Determined.{Once}
 use Rattle.patterns.proofs.Determined.{once}
@@ -10,8 +9,9 @@ use Rattle.event_record.specs.Record.{Answer, reply}
 use Rattle.events.specs.declared.PositionAnswer.{PositionAnswer}
 use Rattle.events.specs.declared.EventAnswer.{EventAnswer}
 use Rattle.events.specs.Stream.{done_told, position_told, event_told}
-use Rattle.events.specs.Determined.{done_read, done_same, position_read, position_same, event_read, event_same}
+use Rattle.events.specs.Determined.{done_read, done_same}
 use Rattle.live_events.specs.Live.{lent}
+use Rattle.live_events.proofs.Readings.{position_read, position_same, event_read, event_same}
 
 -- any answer that can be read back
 module _ {A : Type 0} (told : A → Answer) (back : Answer → A) (same : (a : A) → back (told a) ≡ a) where

@@ -1,13 +1,9 @@
--- What a call on an event stream whose record stands as numbers in lent memory answers and leaves: the stream's own `step`, on the record
--- that the numbers are; and what it changes of the record is stored. Assumes nothing.
-use Rattle.std.specs.Prelude.{ℕ, ◌≡◌, refl, List, [], ◌∷◌, ◌++◌, replicate}
-
-use Rattle.refusals.specs.Calls.{unless}
-use Rattle.event_record.specs.Record.{Call, push_token, push_error, begin, end, end_with_error, bookmark, truncate, remove_bookmark, pop, Answer, done, none, position, event, refused, Reply, reply, span, event_of}
-use Rattle.events.specs.declared.Stream.{Stream}
-use Rattle.events.specs.Stream.{State, state, fresh, step}
-use Rattle.stream_numbers.specs.Numbers.{stream_of, numbers_of, put_last, put_opened, put_bookmarks, put_popped, forged}
-use Rattle.live_events.specs.Live.{Lent, changed, kept, left, lent, live, read, sixteen, stored}
+-- Examples. One slot and no open place: opened, a token pushed, popped; and a last number that is no truth value. Assumes nothing.
+use Rattle.std.specs.Prelude.{◌≡◌, refl, [], ◌∷◌, replicate}
+use Rattle.event_record.specs.Record.{push_token, pop, done, event, refused, reply, span, event_of}
+use Rattle.events.specs.Stream.{fresh, step}
+use Rattle.stream_numbers.specs.Numbers.{stream_of, numbers_of}
+use Rattle.live_events.specs.Live.{lent, live, sixteen}
 
 as_opened : numbers_of (fresh 1 0) ≡ sixteen 0 (0 ∷ 0 ∷ 0 ∷ 0 ∷ []) 0
 unfolding numbers_of

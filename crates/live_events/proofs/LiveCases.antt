@@ -1,7 +1,6 @@
 -- The cases of a call on numbers: forged ones, and the stream's own call; and of its answer. By one look at the definition each.
 -- Assumes nothing.
 use Rattle.std.specs.Prelude.{ℕ, ◌≡◌, refl, true, false, List}
-
 use Rattle.std.proofs.Common.{ap}
 use Rattle.event_record.specs.Record.{Call, Answer, refused, reply}
 use Rattle.events.specs.declared.Stream.{Stream}

@@ -1,7 +1,6 @@
 -- A call that is refused or finds none changes no lent number; calls one after the other answer and leave what the stream's own do, from
 -- opening on as the plain list, and none by 24. For a record is read back from its numbers, and they from it. Assumes nothing.
 use Rattle.std.specs.Prelude.{ℕ, ◌≡◌, refl, false, List, [], ◌∷◌, length}
-
 use Rattle.std.proofs.Common.{sym, ap, ◌∙◌}
 use Rattle.patterns.proofs.Bools.{by_test}
 use Rattle.patterns.specs.Lists.{All}
@@ -9,14 +8,15 @@ use Rattle.refusals.specs.Calls.{run, after_all}
 use Rattle.event_record.specs.Record.{Call, Answer, none, refused, reply, opened}
 use Rattle.event_record.specs.Record as of_list
 use Rattle.event_room.specs.Room.{slots_in}
-use Rattle.events.specs.Stream.{State, state, step, fresh}
-use Rattle.event_view.proofs.Still.{refused_still, none_still as stream_none_still}
+use Rattle.events.specs.Stream.{State, step}
+use Rattle.event_view.proofs.Still.{refused_still}
 use Rattle.event_view.specs.Viewed.{start, Not_24}
 use Rattle.event_view.proofs.Viewed.{viewed, never_24 as step_never_24}
-use Rattle.stream_numbers.specs.Numbers.{stream_of, numbers_of, forged, Sixteen}
+use Rattle.stream_numbers.specs.Numbers.{forged, Sixteen}
 use Rattle.stream_numbers.specs.NumberLaws.{stream_back, numbers_back, never_forged}
 use Rattle.live_events.specs.Live.{Lent, lent, stored, read, live}
 use Rattle.live_events.proofs.Changes.{whole}
+use Rattle.live_events.proofs.NoneStill as of_stream
 
 -- A call that is refused, or answers none, changes nothing, whatever is lent.
 module _ (c : Call) (l : Lent) where
@@ -33,7 +33,7 @@ module _ (c : Call) (l : Lent) where
   unfolding live
   none_still h =
       by_test (forged l.stream) (λ e. rw e)
-      (λ e. rw e (let q : (step c (read l)).answer ≡ none = rw e at h in rw q (same_rooms (stream_none_still (read l) c q))))
+      (λ e. rw e (let q : (step c (read l)).answer ≡ none = rw e at h in rw q (same_rooms (of_stream.none_still (read l) c q))))
 
 -- A call on a state that is stored.
 pub live_of : (c : Call) (s : State) → live c (stored s) ≡ reply (step c s).answer (stored (step c s).after)

@@ -1,11 +1,10 @@
 -- What a call on an event stream whose record stands as numbers in lent memory answers and leaves: the stream's own `step`, on the record
 -- that the numbers are; and what it changes of the record is stored. Assumes nothing.
-use Rattle.std.specs.Prelude.{ℕ, ◌≡◌, refl, List, [], ◌∷◌, ◌++◌, replicate}
-
+use Rattle.std.specs.Prelude.{ℕ, List, [], ◌∷◌, ◌++◌}
 use Rattle.refusals.specs.Calls.{unless}
-use Rattle.event_record.specs.Record.{Call, push_token, push_error, begin, end, end_with_error, bookmark, truncate, remove_bookmark, pop, Answer, done, none, position, event, refused, Reply, reply, span, event_of}
+use Rattle.event_record.specs.Record.{Call, push_token, push_error, begin, end, end_with_error, bookmark, truncate, remove_bookmark, pop, Answer, done, none, position, event, refused, Reply, reply}
 use Rattle.events.specs.declared.Stream.{Stream}
-use Rattle.events.specs.Stream.{State, state, fresh, step}
+use Rattle.events.specs.Stream.{State, state, step}
 use Rattle.stream_numbers.specs.Numbers.{stream_of, numbers_of, put_last, put_opened, put_bookmarks, put_popped, forged}
 
 -- Every lent number.
@@ -51,6 +50,6 @@ unfoldable pub live : Call → Lent → Reply Lent
 live c l =
     unless refused ((forged l.stream, 24) ∷ []) l (kept c l.stream (step c (read l)))
 
--- Examples. One slot and no open place: opened, a token pushed, popped; and a last number that is no truth value.
+-- The numbers of a record of one slot and no open place, for examples.
 abbrev pub sixteen : ℕ → List ℕ → ℕ → List ℕ
 sixteen count spans popped = (1 ∷ 0 ∷ 0 ∷ 0 ∷ 0 ∷ 0 ∷ count ∷ 0 ∷ 0 ∷ 0 ∷ 0 ∷ []) ++ spans ++ (popped ∷ [])
