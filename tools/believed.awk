@@ -2,8 +2,8 @@
 # the specs of all crates in reading order and their theorems in proofs/, the sources of the libraries, and the documents that promise
 # theorems. All is bytes (LC_ALL=C).
 #
-# An item is a definition, a type or a law of a file of specs/ or proofs/, known by file and name, as `tokens/specs/Scan best`. Its chunks are its
-# statement and its clauses, or a type's head and its fields or constructors. The heads of the modules around it belong to it too.
+# An item is a definition, a type or a law of a file of specs/ or proofs/, known by file and name, as `tokens/specs/Scan best`. Its chunks
+# are its statement and its clauses, or a type's head and its fields or constructors. The heads of the modules around it belong to it too.
 # A root is a crate, for the contracts of its public functions, or a theorem.
 
 # ---- reading ----
