@@ -16,7 +16,7 @@ use refusals::DoneAnswer;
 use tokens::{Mode, Offset};
 
 // The bytes, where scanning goes on in them, and in which mode.
-#[derive(Drop)]
+#[derive(Clone, Copy)]
 pub struct Source<'a> {
     pub src: &'a [u8],
     pub place: Offset,
@@ -24,7 +24,7 @@ pub struct Source<'a> {
 }
 
 // What opening gives: done or refused, and the source at its start. A source that was refused is refused by each later scan.
-#[derive(Drop)]
+#[derive(Clone, Copy)]
 pub struct OpenGiven<'a> {
     pub answer: DoneAnswer,
     pub source: Source<'a>,

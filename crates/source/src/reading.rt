@@ -9,7 +9,7 @@ use reader::{Reader, Scan};
 use tokens::{Mode, Offset};
 
 // What a scan gives: its answer, and the source behind the token; where there is none, the source as it was.
-#[derive(Drop)]
+#[derive(Clone, Copy)]
 pub struct ScanGiven<'a> {
     pub answer: Scan,
     pub source: Source<'a>,
