@@ -35,11 +35,10 @@ put() { # TEXT
     die "standard output cannot be written: ${why##*: }"
 }
 
-# Ends with a word where there is no kit that works. Sets `kit`, its folder.
+# Ends with a word where there is no kit that works.
 find_kit() {
     command -v rt >/dev/null || die "no rt on the path: the Rattle kit is needed"
     kit=$(rt doc 2>&1) || die "the Rattle kit does not work: $(printf '%s\n' "$kit" | tail -n 1)"
-    kit=${kit%/START-HERE.md}
 }
 
 # Prints the crates of the repository that a crate is built from, as crates.txt has them, each behind those that it needs; itself last.
