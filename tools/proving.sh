@@ -56,17 +56,19 @@ needed() { # CRATE
         END { need(crate) }' "$root/crates.txt"
 }
 
-# Whether a file is there, and no file of the crates that CRATE is built from is newer; what rt keeps in their out/ does not count.
+# Whether a file is there, and no file of the crates that CRATE is built from is newer, nor a folder in which one was removed or put. What rt
+# keeps in their out/ does not count, and so a crate's own folder does not, in which rt makes and moves out/.
 is_current() { # FILE CRATE
     [ -f "$1" ] && [ -r "$1" ] || return 1
     # shellcheck disable=SC2046
-    [ -z "$(cd "$root" && find crates.txt $(needed "$2" | sed 's|^|crates/|') -name out -prune -o -newer "$1" ! -type d -print 2>/dev/null | head -n 1)" ]
+    [ -z "$(cd "$root" && find crates.txt $(needed "$2" | sed 's|^|crates/|') -name out -prune -o \
+        -newer "$1" \( ! -type d -o -path 'crates/*/*' \) -print 2>/dev/null | head -n 1)" ]
 }
 
-# Ends with a word where target/ cannot be written.
+# Ends with a word where target/ cannot be written, or what rt keeps in the folders of the crates.
 must_be_writable() {
     mkdir -p "$root/target" 2>/dev/null || true
-    for part in "$root/target" "$root/target"/*; do
+    for part in "$root/target" "$root/target"/* "$root/crates"/* "$root/crates"/*/out; do
         [ "$part" = "$root/target" ] || [ -d "$part" ] || continue
         [ -d "$part" ] && [ -w "$part" ] && [ -x "$part" ] ||
             die "cannot write to $part: copy the checkout to a folder of your own, and run it there"
