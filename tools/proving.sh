@@ -161,10 +161,12 @@ proving() { # LOG CRATE COMMAND WORD..
     { if "$@" </dev/null 2>&1 9<&-; then echo 'ended 0'; else echo "ended $?"; fi; } | follow "$log" $crates
 }
 
-# Prints the line of a log that says best why rt failed.
+# Prints the line of a log that says best why rt failed: what it was denied, the first function that is not proved, the first error with the
+# whole path of its file, or the last line.
 reason() { # LOG
     awk '/Permission denied|Read-only file system|No space left on device/ && !denied { denied = $0 }
-        /(^|: )(error: |no proof: |not proved$)/ && !first { first = $0 }
+        /: (not proved$|no proof: )/ && !unproved { unproved = $0 }
+        /^\/.*: error(\[[a-z-]+\])?: / && !wrong { wrong = $0 }
         { last = $0 }
-        END { print (denied ? denied : first ? first : last) }' "$1"
+        END { print (denied ? denied : unproved ? unproved : wrong ? wrong : last) }' "$1"
 }
