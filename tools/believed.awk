@@ -22,7 +22,7 @@ function take_crate(line) {
         group = substr(line, 3)
         sub(/^the /, "", group)
         sub(/:.*/, "", group)
-    } else if (sub(/:.*/, "", line)) {
+    } else if (sub(/( staticlib)?:.*/, "", line)) {
         crate_at[++crates] = line
         group_of[line] = group
     }
