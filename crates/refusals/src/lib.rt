@@ -4,8 +4,11 @@
 ghost use Rattle.std.specs.Prelude.{◌≡◌};
 ghost use Rattle.refusals.specs.Refusals.{number_of};
 
+use std::error::Error;
+use std::fmt;
+
 // Why a call is refused.
-#[derive(Clone, Copy)]
+#[derive(Clone, Copy, Debug, PartialEq, Eq)]
 pub enum Refusal {
     // opening: the source is over the limit
     SourceTooLong,
@@ -34,6 +37,63 @@ pub enum Refusal {
     // a later call: what is handed over is not as it was at opening
     NotAsOpened,
 }
+
+// What a call gives: its answer, and the state after it. A refused call gives back the state as it was.
+#[derive(Clone, Copy)]
+pub struct Given<T, S> {
+    pub answer: Result<T, Refusal>,
+    pub after: S,
+}
+
+impl<T, S> Given<T, S> {
+    // Done, with a value.
+    pub fn done(value: T, after: S) -> Given<T, S>
+        ensures { result ≡ record { answer = Ok value; after = after } }
+    {
+        Given {
+            answer: Ok(value),
+            after,
+        }
+    }
+
+    // Refused: the state is the one before.
+    pub fn refused(refusal: Refusal, before: S) -> Given<T, S>
+        ensures { result ≡ record { answer = Err refusal; after = before } }
+    {
+        Given {
+            answer: Err(refusal),
+            after: before,
+        }
+    }
+}
+
+impl<T, S: Copy> Given<T, S> {
+    // The answer; the state after it is left where it is lent.
+    pub fn left_in(self, state: &mut S) -> Result<T, Refusal>
+        ensures { (result ≡ self.answer) × (state.new ≡ self.after) }
+    {
+        *state = self.after;
+        self.answer
+    }
+}
+
+impl From<Refusal> for u32 {
+    ghost from_gives = { λ refusal n. n ≡ number_of refusal };
+
+    // The number of a refusal.
+    fn from(refusal: Refusal) -> u32 {
+        number(refusal)
+    }
+}
+
+impl fmt::Display for Refusal {
+    // A refusal is written as its number.
+    fn fmt<W: fmt::Write>(&self, f: &mut fmt::Formatter<W>) -> fmt::Result {
+        write!(f, "{}", number(*self))
+    }
+}
+
+impl Error for Refusal {}
 
 // What a call answers that gives nothing else.
 #[derive(Clone, Copy)]
