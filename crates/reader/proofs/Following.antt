@@ -1,20 +1,17 @@
 -- One scan after the other. At the end no token is ahead of a reader; else the token that a scan finds, and those that are ahead of
 -- the reader behind it. From the scanner's promise and the laws of the definition's scan. Assumes nothing.
 use Prim.Native.Nat.{ℕ, zero, suc, min, ◌+◌, ◌≤◌, zero-le}
-use Rattle.std.specs.Prelude.{◌≡◌, List, [], ◌∷◌, length}
+use Rattle.std.specs.Prelude.{◌≡◌, List, [], ◌∷◌, length, Some, None}
 use Rattle.std.proofs.Math.Path.{refl}
 use Rattle.std.proofs.Common.{ap, arith, le-leb}
 use Rattle.tokens.specs.declared.Token.{Token}
-use Rattle.tokens.specs.declared.Scanned.{Scanned}
-use Rattle.tokens.specs.declared.Scanned.TheVariants as scanned
 use Rattle.tokens.specs.Tokens.{tables_1}
-use Rattle.tokens.specs.Scan.{scan, onto, list_from}
+use Rattle.tokens.specs.Scan.{Scanned, scan, onto, list_from}
 use Rattle.tokens.specs.ScanLaws.{Step}
 use Rattle.tokens.proofs.ScanLaws.{scan_found}
 use Rattle.tokens.proofs.ListLaws.{tile_count, enough, list_step, list_tiles, first_count, first_ends}
 use Rattle.reader.specs.declared.Reader.{Reader}
-use Rattle.reader.specs.declared.Scan.{Scan}
-use Rattle.reader.specs.Reading.{source_limit, Answer, start, open_of, moved, scan_of, scan_told, Ahead, ahead}
+use Rattle.reader.specs.Reading.{source_limit, Answer, start, open_of, moved, Scan, scan_of, scan_told, Ahead, ahead}
 use Rattle.reader.specs.Reading as reading
 use Rattle.reader.proofs.ReaderLaws.{opened_ready}
 use Rattle.reader.specs.Following.{Ends, Onward, Says, Sound, before, rest, still}
@@ -32,10 +29,10 @@ module _ (src : List ℕ) (r : Reader) where
   rest_step y e = rw (← e) (ap (λ l. l.tokens) (list_step tables_1 src r.place.0 r.mode))
 
   pub rest_end : Ends src r → rest src r ≡ []
-  rest_end e = rest_step scanned.End e
+  rest_end e = rest_step None e
 
   pub rest_more : (x : Token) (next : Reader) → Onward src r x next → rest src r ≡ x ∷ rest src next
-  rest_more x next o = rw o.placed (rest_step (scanned.Found x next.mode) o.found)
+  rest_more x next o = rw o.placed (rest_step (Some (x, next.mode)) o.found)
 
   pub ahead_none : ahead 0 src r ≡ still r
   unfolding ahead
@@ -62,8 +59,8 @@ module _ (src : List ℕ) (r : Reader) where
 
   module _ (h : Sound src r) where
     moved_says : (y : Scanned) → scan tables_1 src r.place.0 r.mode ≡ y → Says src r (moved y)
-    moved_says scanned.End e = e
-    moved_says (scanned.Found x m) e =
+    moved_says None e = e
+    moved_says (Some (x, m)) e =
         let s : Step src r.place.0 x = scan_found tables_1 src r.place.0 r.mode x m e in
         record { found = e; placed = refl; further = s.longer; sound = record { limit = h.limit; inside = s.within } }
 

@@ -1,21 +1,18 @@
 -- The cases of opening a reader: ready or refused. Those of a scan: refused, or the definition's scan, which is at the end or finds a
 -- token; the tests of 24 come first. And no two answers are told alike, so that the promises leave no choice. Assumes nothing.
-use Rattle.std.specs.Prelude.{ℕ, ◌≤◌, ◌<◌, ◌≡◌, refl, List, length, leb}
+use Rattle.std.specs.Prelude.{ℕ, ◌≤◌, ◌<◌, ◌≡◌, refl, List, length, leb, Some, None, Result, Ok, Err}
 use Rattle.std.proofs.Common.{sym, ap, ◌∙◌, arith, leb-true, leb-false, le-leb}
 use Rattle.std.proofs.lemmas.Bool.{lt-leb}
 use Rattle.patterns.proofs.Bools.{by_test}
 use Rattle.patterns.specs.Determined.{Once}
 use Rattle.patterns.proofs.Determined.{once}
+use Rattle.refusals.specs.declared.Refusal.{Refusal}
 use Rattle.refusals.specs.RefusalLaws.{read_back}
 use Rattle.tokens.specs.Tokens.{tables_1}
 use Rattle.tokens.specs.Scan.{scan}
 use Rattle.tokens.proofs.ScanLaws.{scan_end}
 use Rattle.reader.specs.declared.Reader.{Reader}
-use Rattle.reader.specs.declared.Opened.{Opened}
-use Rattle.reader.specs.declared.Opened.TheVariants as of_opened
-use Rattle.reader.specs.declared.Scan.{Scan}
-use Rattle.reader.specs.declared.Scan.TheVariants as of_scan
-use Rattle.reader.specs.Reading.{source_limit, ready, end, refused, start, open_of, moved, scan_of, opened_told, scan_told, entered}
+use Rattle.reader.specs.Reading.{source_limit, ready, end, refused, start, open_of, moved, scan_of, opened_told, Scan, scan_told, entered}
 use Rattle.reader.specs.ReaderLaws.{opened_read, scan_read}
 
 module _ (s : List ℕ) where
@@ -52,17 +49,17 @@ module _ (s : List ℕ) (r : Reader) where
 pub entered_same : (r : Reader) → entered r.mode r ≡ r
 entered_same r = refl
 
-opened_same : (y : Opened) → opened_read (opened_told y) ≡ y
-opened_same (of_opened.Ready r) = refl
-opened_same (of_opened.Refused n) = ap of_opened.Refused (read_back n)
+opened_same : (y : Result Reader Refusal) → opened_read (opened_told y) ≡ y
+opened_same (Ok r) = refl
+opened_same (Err n) = ap (λ x. Err x) (read_back n)
 
 pub opened_once : Once opened_told
 opened_once = once opened_told opened_read opened_same
 
 pub scan_same : (y : Scan) → scan_read (scan_told y) ≡ y
-scan_same of_scan.End = refl
-scan_same (of_scan.Found x r) = refl
-scan_same (of_scan.Refused n) = ap of_scan.Refused (read_back n)
+scan_same (Ok None) = refl
+scan_same (Ok (Some (x, r))) = refl
+scan_same (Err n) = ap (λ q. Err q) (read_back n)
 
 pub scan_once : Once scan_told
 scan_once = once scan_told scan_read scan_same

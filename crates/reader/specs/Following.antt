@@ -1,12 +1,11 @@
 -- One scan after the other: the source and reader that a scan takes, what its answer says, and the tokens that are left. Assumes nothing.
 use Prim.Native.Nat.{ℕ, ◌≤◌, ◌<◌}
-use Rattle.std.specs.Prelude.{◌≡◌, List, [], ◌∷◌, length}
+use Rattle.std.specs.Prelude.{◌≡◌, List, [], ◌∷◌, length, Some, None}
 use Rattle.tokens.specs.declared.Token.{Token}
-use Rattle.tokens.specs.declared.Scanned.TheVariants as scanned
 use Rattle.tokens.specs.Tokens.{tables_1}
 use Rattle.tokens.specs.Scan.{scan, list_from}
 use Rattle.reader.specs.declared.Reader.{Reader}
-use Rattle.reader.specs.Reading.{source_limit, Answer, start, open_of, moved, scan_of, scan_told, Ahead, ahead}
+use Rattle.reader.specs.Reading.{source_limit, Answer, Ahead}
 use Rattle.reader.specs.Reading as reading
 
 -- a source and a reader that a scan takes
@@ -16,14 +15,14 @@ pub record Sound (src : List ℕ) (r : Reader) : Type 0 where
 
 -- a token found, and the reader behind it
 pub record Onward (src : List ℕ) (r : Reader) (x : Token) (next : Reader) : Type 0 where
-  pub found : scan tables_1 src r.place.0 r.mode ≡ scanned.Found x next.mode
+  pub found : scan tables_1 src r.place.0 r.mode ≡ Some (x, next.mode)
   pub placed : next.place ≡ x.end
   pub further : r.place.0 < next.place.0
   pub sound : Sound src next
 
 -- no token is left
 abbrev pub Ends : List ℕ → Reader → Type 0
-Ends src r = scan tables_1 src r.place.0 r.mode ≡ scanned.End
+Ends src r = scan tables_1 src r.place.0 r.mode ≡ None
 
 -- what a scan's answer says; a reader that can scan is not refused
 abbrev pub Says : List ℕ → Reader → Answer → Type 0

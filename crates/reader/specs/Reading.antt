@@ -1,19 +1,14 @@
 -- The reader's calls: opening, scanning, and the switches of mode, with document 01's refusals.
 -- Assumes nothing.
-use Rattle.std.specs.Prelude.{ℕ, Bool, cond, ◌&&◌, List, length, leb}
+use Rattle.std.specs.Prelude.{ℕ, Bool, cond, ◌&&◌, List, length, leb, Option, Some, None, Result, Ok, Err}
+use Rattle.refusals.specs.declared.Refusal.{Refusal}
 use Rattle.refusals.specs.Refusals.{number_of}
 use Rattle.tokens.specs.declared.Mode.{Mode}
 use Rattle.tokens.specs.declared.Mode.TheVariants.{Normal}
 use Rattle.tokens.specs.declared.Token.{Token}
-use Rattle.tokens.specs.declared.Scanned.{Scanned}
-use Rattle.tokens.specs.declared.Scanned.TheVariants as scanned
 use Rattle.tokens.specs.Tokens.{tables_1}
-use Rattle.tokens.specs.Scan.{scan, ends, list_first}
+use Rattle.tokens.specs.Scan.{Scanned, scan, ends, list_first}
 use Rattle.reader.specs.declared.Reader.{Reader}
-use Rattle.reader.specs.declared.Opened.{Opened}
-use Rattle.reader.specs.declared.Opened.TheVariants as of_opened
-use Rattle.reader.specs.declared.Scan.{Scan}
-use Rattle.reader.specs.declared.Scan.TheVariants as of_scan
 
 -- the most bytes that a source may have
 abbrev pub source_limit : ℕ
@@ -39,22 +34,26 @@ sound src r = leb (length src) source_limit && leb r.place.0 (length src)
 
 -- a token, and the reader moved to its end
 abbrev pub moved : Scanned → Answer
-moved scanned.End = end
-moved (scanned.Found x m) = found x (record { place = x.end; mode = m })
+moved None = end
+moved (Some (x, m)) = found x (record { place = x.end; mode = m })
 
 -- A scan: the definition's, at the reader's place and in its mode.
 abbrev pub scan_of : List ℕ → Reader → Answer
 scan_of src r = cond (sound src r) (moved (scan tables_1 src r.place.0 r.mode)) (refused 24)
 
 -- The code's answers in these values.
-abbrev pub opened_told : Opened → Answer
-opened_told (of_opened.Ready r) = ready r
-opened_told (of_opened.Refused n) = refused (number_of n)
+abbrev pub opened_told : Result Reader Refusal → Answer
+opened_told (Ok r) = ready r
+opened_told (Err n) = refused (number_of n)
+
+-- what a scan answers
+abbrev pub Scan : Type 0
+Scan = Result (Option (Token × Reader)) Refusal
 
 abbrev pub scan_told : Scan → Answer
-scan_told of_scan.End = end
-scan_told (of_scan.Found x r) = found x r
-scan_told (of_scan.Refused n) = refused (number_of n)
+scan_told (Ok None) = end
+scan_told (Ok (Some (x, r))) = found x r
+scan_told (Err n) = refused (number_of n)
 
 -- A switch acts at the place where the reader is.
 abbrev pub entered : Mode → Reader → Reader

@@ -9,42 +9,27 @@ ghost use Rattle.reader.specs.Reading.{open_of, opened_told, entered};
 mod scanning;
 
 use refusals::Refusal;
-use tokens::{Mode, Offset, Token};
+use tokens::{Mode, Offset};
 
 // The most bytes that a source may have.
 pub const SOURCE_LIMIT: usize = 65535;
 
 // Where scanning goes on, and in which mode.
-#[derive(Clone, Copy)]
+#[derive(Clone, Copy, Debug, PartialEq, Eq)]
 pub struct Reader {
     pub place: Offset,
     pub mode: Mode,
 }
 
-// What opening answers.
-#[derive(Clone, Copy)]
-pub enum Opened {
-    Ready(Reader),
-    Refused(Refusal),
-}
-
-// What a scan answers: no token, the source being at its end; a token, and the reader moved to its end; or a refusal.
-#[derive(Clone, Copy)]
-pub enum Scan {
-    End,
-    Found(Token, Reader),
-    Refused(Refusal),
-}
-
 impl Reader {
     // A reader at the start of a source, in normal mode.
-    pub fn open(src: &[u8]) -> Opened
+    pub fn open(src: &[u8]) -> Result<Reader, Refusal>
         ensures { opened_told result ≡ open_of src.now }
     {
         if SOURCE_LIMIT < src.len() {
-            return Opened::Refused(Refusal::SourceTooLong);
+            return Err(Refusal::SourceTooLong);
         }
-        Opened::Ready(Reader {
+        Ok(Reader {
             place: Offset(0),
             mode: Mode::Normal,
         })

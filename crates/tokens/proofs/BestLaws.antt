@@ -1,8 +1,8 @@
 -- `best` is what document 01 says: the longest match wins, and of several that are as long the first rule in the list. By induction on
 -- the rules, since `longest` finds each rule's longest match (longest_right). Assumes nothing.
-use Rattle.std.specs.Prelude.{ℕ, suc, ◌≤◌, ◌<◌, ◌≡◌, refl, Bool, true, false, cond, ◌&&◌, ◌⊎◌, List, [], ◌∷◌, ◌++◌, length, take, leb}
+use Rattle.std.specs.Prelude.{ℕ, suc, ◌≤◌, ◌<◌, ◌≡◌, refl, Bool, true, false, cond, ◌&&◌, ◌⊎◌, List, [], ◌∷◌, length, leb}
 use Rattle.std.proofs.Common.{ap, inl, inr, ⊎_elim, arith, leb-true, leb-false}
-use Rattle.patterns.specs.Pattern.{Pat, Matches, longest}
+use Rattle.patterns.specs.Pattern.{Pat, longest}
 use Rattle.patterns.specs.Lists.{All}
 use Rattle.patterns.proofs.Lists.{all_append}
 use Rattle.patterns.specs.Longest.{Longest, Right, is_none, is_longest}
@@ -10,7 +10,7 @@ use Rattle.patterns.proofs.Longest.{longest_right}
 use Rattle.tokens.specs.declared.Hit.{Hit}
 use Rattle.tokens.specs.Tokens.{Rule}
 use Rattle.tokens.specs.Scan.{hit, best}
-use Rattle.tokens.specs.BestLaws.{Below, Best, Wins, none, won}
+use Rattle.tokens.specs.BestLaws.{Below, Best, none, won}
 
 weaker : (s : List ℕ) (n m : ℕ) → n ≤ m → (rs : List Rule) → All (Below s n) rs → All (Below s m) rs
 weaker s n m h [] a = tt

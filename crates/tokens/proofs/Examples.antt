@@ -1,14 +1,13 @@
 -- Examples that pin the definitions: every keyword and operator, texts that are and are not one token, classes, the Unicode tables.
 -- Each is computed by the definitions themselves. Assumes nothing.
-use Rattle.std.specs.Prelude.{ℕ, ◌+◌, ◌≡◌, refl, Bool, true, cond, not, ◌&&◌, List, [], ◌∷◌, map, length, leb, eqb}
-use Prim.Native.String.{String}
+use Rattle.std.specs.Prelude.{◌≡◌, refl, true, not, [], ◌∷◌, map, length}
 use Rattle.patterns.specs.Lists.{each, members}
 use Rattle.patterns.specs.Pattern.{nullable}
 use Rattle.tokens.specs.declared.Mode.{Mode}
 use Rattle.tokens.specs.declared.Mode.TheVariants.{Normal, HexPattern, HexJump}
 use Rattle.tokens.specs.Unicode.{digits_16}
 use Rattle.tokens.specs.Tokens.{ascii, tables_1, letter, dec, oct, hex, word_start, hex_or_mark, blank}
-use Rattle.tokens.specs.Scan.{best, rules, token, listing, list_from}
+use Rattle.tokens.specs.Scan.{rules, token, listing, list_from}
 use Rattle.tokens.specs.Examples.{kinds, one_token, spaced, sum}
 
 -- quoted texts

@@ -1,4 +1,5 @@
 -- Theorems about what stands in specs/, in modules of the same names.
+pub mod Modes
 pub mod NoneOf
 pub mod Marked
 pub mod Examples

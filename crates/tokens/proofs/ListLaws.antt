@@ -1,7 +1,7 @@
 -- The list of tokens: it is the scan's answer and then the list from there, and it tiles the source. Since each token is at least
 -- one byte long, as many turns as there are bytes are enough, and more change nothing. Assumes nothing.
 use Prim.Native.Nat.{ℕ, zero, suc, min, ◌+◌, ◌-◌, ◌≤◌, ◌<◌, zero-le}
-use Rattle.std.specs.Prelude.{◌≡◌, List, [], ◌∷◌}
+use Rattle.std.specs.Prelude.{◌≡◌, List, [], ◌∷◌, Some, None}
 use Rattle.std.proofs.Math.Path.{refl}
 use Rattle.std.proofs.Common.{ap, ◌∙◌}
 use native.Mathlib.Omega.{arith}
@@ -9,10 +9,8 @@ use Rattle.std.proofs.Math.ListN.{length}
 use Rattle.patterns.specs.Lists.{All}
 use Rattle.tokens.specs.declared.Mode.{Mode}
 use Rattle.tokens.specs.declared.Token.{Token}
-use Rattle.tokens.specs.declared.Scanned.{Scanned}
-use Rattle.tokens.specs.declared.Scanned.TheVariants.{End, Found}
 use Rattle.tokens.specs.Tokens.{Tables}
-use Rattle.tokens.specs.Scan.{scan, listing, onto, ends, list_first, list_from, tokens}
+use Rattle.tokens.specs.Scan.{Scanned, scan, listing, onto, ends, list_first, list_from, tokens}
 use Rattle.tokens.specs.ScanLaws.{Step}
 use Rattle.tokens.proofs.ScanLaws.{scan_found, scan_end}
 use Rattle.tokens.specs.ListLaws.{Tiles}
@@ -28,7 +26,7 @@ module _ (t : Tables) (src : List ℕ) where
   left at = length src - at
 
   -- a token leaves less
-  less : (at : ℕ) (m : Mode) (x : Token) (m' : Mode) → scan t src at m ≡ Found x m' → left x.end.0 < left at
+  less : (at : ℕ) (m : Mode) (x : Token) (m' : Mode) → scan t src at m ≡ Some (x, m') → left x.end.0 < left at
   less at m x m' e = let s : Step src at x = scan_found t src at m x m' e in omega (arith, s.longer, s.within)
 
   -- any two numbers of turns that are enough give the same list
@@ -41,8 +39,8 @@ module _ (t : Tables) (src : List ℕ) where
     where
       go : (y : Scanned) → scan t src at m ≡ y → ((e : ℕ) (m' : Mode) → left e < left at → list_first n t src e m' ≡ list_first k t src e m')
           → onto y m (λ e m'. list_first n t src e m') ≡ onto y m (λ e m'. list_first k t src e m')
-      go End e f = refl
-      go (Found x m') e f = rw (f x.end.0 m' (less at m x m' e))
+      go None e f = refl
+      go (Some (x, m')) e f = rw (f x.end.0 m' (less at m x m' e))
 
   -- the list is the scan's answer, and then the list from the token's end
   pub list_step : (at : ℕ) (m : Mode) → list_from t src at m ≡ onto (scan t src at m) m (λ e m'. list_from t src e m')
@@ -60,8 +58,8 @@ module _ (t : Tables) (src : List ℕ) where
     where
       go : (y : Scanned) → scan t src at m ≡ y → ((e : ℕ) (m' : Mode) → e ≤ length src → left e < left at → Tiles e (length src) (list_first n t src e m').tokens)
           → Tiles at (length src) (onto y m (λ e m'. list_first n t src e m')).tokens
-      go End e f = let k : length src ≤ at = (scan_end t src at m).0 e in omega arith
-      go (Found x m') e f = let s : Step src at x = scan_found t src at m x m' e in (s.starts, s.longer, f x.end.0 m' s.within (less at m x m' e))
+      go None e f = let k : length src ≤ at = (scan_end t src at m).0 e in omega arith
+      go (Some (x, m')) e f = let s : Step src at x = scan_found t src at m x m' e in (s.starts, s.longer, f x.end.0 m' s.within (less at m x m' e))
 
   -- the tokens from any place of the source tile what is left of it
   pub list_tiles : (at : ℕ) (m : Mode) → at ≤ length src → Tiles at (length src) (list_from t src at m).tokens
@@ -79,8 +77,8 @@ module _ (t : Tables) (src : List ℕ) where
     where
       go : (y : Scanned) → ((e : ℕ) (m' : Mode) → length (list_first n t src e m').tokens ≡ min n (length (list_from t src e m').tokens))
           → length (onto y m (λ e m'. list_first n t src e m')).tokens ≡ min (suc n) (length (onto y m (λ e m'. list_from t src e m')).tokens)
-      go End f = omega arith
-      go (Found x m') f = omega (arith, f x.end.0 m')
+      go None f = omega arith
+      go (Some (x, m')) f = omega (arith, f x.end.0 m')
 
   -- where they end: each is at least one byte on, and the last within the source
   pub first_ends : (n at : ℕ) (m : Mode) → at ≤ length src
@@ -92,19 +90,19 @@ module _ (t : Tables) (src : List ℕ) where
       go : (y : Scanned) → scan t src at m ≡ y
           → ((e : ℕ) (m' : Mode) → e ≤ length src → (e + length (list_first n t src e m').tokens ≤ ends e (list_first n t src e m').tokens) × (ends e (list_first n t src e m').tokens ≤ length src))
           → (at + length (onto y m (λ e m'. list_first n t src e m')).tokens ≤ ends at (onto y m (λ e m'. list_first n t src e m')).tokens) × (ends at (onto y m (λ e m'. list_first n t src e m')).tokens ≤ length src)
-      go End e f = (omega arith, h)
-      go (Found x m') e f =
+      go None e f = (omega arith, h)
+      go (Some (x, m')) e f =
           let s : Step src at x = scan_found t src at m x m' e in
           let g = f x.end.0 m' s.within in
           (omega (arith, s.longer, g.0), g.1)
 
   -- every token of a list comes from a scan
-  module _ (P : Token → Type 0) (f : (at : ℕ) (m : Mode) (x : Token) (m' : Mode) → scan t src at m ≡ Found x m' → P x) where
+  module _ (P : Token → Type 0) (f : (at : ℕ) (m : Mode) (x : Token) (m' : Mode) → scan t src at m ≡ Some (x, m') → P x) where
     pub first_all : (n at : ℕ) (m : Mode) → All P (list_first n t src at m).tokens
     unfolding list_first
     first_all zero at m = tt
     first_all (suc n) at m = go (scan t src at m) refl (λ e m'. first_all n e m')
       where
         go : (y : Scanned) → scan t src at m ≡ y → ((e : ℕ) (m' : Mode) → All P (list_first n t src e m').tokens) → All P (onto y m (λ e m'. list_first n t src e m')).tokens
-        go End e g = tt
-        go (Found x m') e g = (f at m x m' e, g x.end.0 m')
+        go None e g = tt
+        go (Some (x, m')) e g = (f at m x m' e, g x.end.0 m')

@@ -1,6 +1,6 @@
 -- What holds of every scan: a token is never empty, starts at the place and ends within the source; none is answered exactly at the
 -- end. Proved once over any modes and rules: a choice takes at least one byte, and no rule more than there are. Assumes nothing.
-use Rattle.std.specs.Prelude.{ℕ, zero, suc, ◌-◌, ◌≤◌, ◌<◌, true, ◌↔◌, drop}
+use Rattle.std.specs.Prelude.{ℕ, zero, suc, ◌-◌, ◌≤◌, true, ◌↔◌, drop, Some, None, IfSome}
 use Rattle.std.proofs.Math.Path.{◌≡◌, refl}
 use mathlib.Core.List.{List, [], ◌∷◌}
 use Rattle.std.proofs.Common.{arith, length-drop}
@@ -15,11 +15,9 @@ use Rattle.tokens.specs.declared.Mode.{Mode}
 use Rattle.tokens.specs.declared.Mode.TheVariants.{Normal, HexPattern, HexJump}
 use Rattle.tokens.specs.declared.Choice.{Choice}
 use Rattle.tokens.specs.declared.Token.{Token}
-use Rattle.tokens.specs.declared.Scanned.{Scanned}
-use Rattle.tokens.specs.declared.Scanned.TheVariants.{End, Found}
 use Rattle.tokens.specs.Kinds.{INVALID_UTF8, UNKNOWN}
 use Rattle.tokens.specs.Tokens.{Tables, tables_1}
-use Rattle.tokens.specs.Scan.{best, rules, tried, plain, unmatched, or_else, choose, scan_rest, scan}
+use Rattle.tokens.specs.Scan.{Scanned, best, rules, tried, plain, unmatched, or_else, choose, scan_rest, scan}
 use Rattle.tokens.proofs.BestLaws.{best_le, best_rule}
 use Rattle.tokens.specs.ScanLaws.{Allowed, Fair, Step}
 
@@ -50,17 +48,17 @@ module _ (t : Tables) (src : List ℕ) (at : ℕ) (m : Mode) where
   unfolding scan
   allowed = rest_allowed t src at m (drop at src) (length-drop at src)
 
-  pub scan_found : (x : Token) (m' : Mode) → scan t src at m ≡ Found x m' → Step src at x
+  pub scan_found : (x : Token) (m' : Mode) → scan t src at m ≡ Some (x, m') → Step src at x
   unfolding Allowed
   scan_found x m' e = rw e at allowed
 
-  pub scan_end : (scan t src at m ≡ End) ↔ (length src ≤ at)
+  pub scan_end : (scan t src at m ≡ None) ↔ (length src ≤ at)
   unfolding Allowed
   scan_end = (λ e. rw e at allowed, λ h. past (scan t src at m) allowed h)
     where
-      past : (y : Scanned) → Allowed src at y → length src ≤ at → y ≡ End
-      past End a h = refl
-      past (Found x m') a h = absurd (omega (arith, a.longer, a.within))
+      past : (y : Scanned) → Allowed src at y → length src ≤ at → y ≡ None
+      past None a h = refl
+      past (Some (x, m')) a h = absurd (omega (arith, a.longer, a.within))
 
 -- The kinds: where every rule's kind is in a class, and those of the two tokens that no rule makes, every token's kind is.
 module _ (c : Class) (t : Tables) (listed : (m : Mode) → each (λ r. c r.kind) (rules t m) ≡ true) (invalid : c INVALID_UTF8 ≡ true) (unknown : c UNKNOWN ≡ true) where
@@ -80,14 +78,14 @@ module _ (c : Class) (t : Tables) (listed : (m : Mode) → each (λ r. c r.kind)
       or_else_kind m (best (rules t m) s).kind (best (rules t m) s).len (choose t ms s)
       (best_rule (λ k. c k ≡ true) (rules t m) s (each_right (λ r. c r.kind) (rules t m) (listed m))) (choose_kind ms s)
 
-  rest_kind : (m : Mode) (at : ℕ) (s : List ℕ) (x : Token) (m' : Mode) → scan_rest t m at s ≡ Found x m' → c x.kind ≡ true
+  rest_kind : (m : Mode) (at : ℕ) (s : List ℕ) → IfSome (scan_rest t m at s) (λ p. c p.0.kind ≡ true)
   unfolding scan_rest
-  rest_kind m at [] x m' e = let z : ◌≡◌ {A = ℕ} 0 1 = cc in absurd (omega arith)
-  rest_kind m at (b ∷ s) x m' e = let k : (choose t (tried m) (b ∷ s)).kind ≡ x.kind = cc in rw (← k) (choose_kind (tried m) (b ∷ s))
+  rest_kind m at [] = tt
+  rest_kind m at (b ∷ s) = choose_kind (tried m) (b ∷ s)
 
-  pub scan_kind : (src : List ℕ) (at : ℕ) (m : Mode) (x : Token) (m' : Mode) → scan t src at m ≡ Found x m' → c x.kind ≡ true
+  pub scan_kind : (src : List ℕ) (at : ℕ) (m : Mode) (x : Token) (m' : Mode) → scan t src at m ≡ Some (x, m') → c x.kind ≡ true
   unfolding scan
-  scan_kind src at m x m' e = rest_kind m at (drop at src) x m' e
+  scan_kind src at m x m' e = rw e at (rest_kind m at (drop at src))
 
 -- document 01's kinds
 pub kinds_1 : (m : Mode) → each (λ r. between 1 82 r.kind) (rules tables_1 m) ≡ true

@@ -1,15 +1,12 @@
 -- `best` is what document 01 says: the longest match wins, and of several that are as long the first rule in the list. By induction on
 -- the rules, since `longest` finds each rule's longest match (longest_right). Assumes nothing.
-use Rattle.std.specs.Prelude.{ℕ, suc, ◌≤◌, ◌<◌, ◌≡◌, refl, Bool, true, false, cond, ◌&&◌, ◌⊎◌, List, [], ◌∷◌, ◌++◌, length, take, leb}
-use Rattle.std.proofs.Common.{ap, inl, inr, ⊎_elim, arith, leb-true, leb-false}
-use Rattle.patterns.specs.Pattern.{Pat, Matches, longest}
+use Rattle.std.specs.Prelude.{ℕ, suc, ◌≤◌, ◌≡◌, List, ◌∷◌, ◌++◌, length, take}
+use Rattle.patterns.specs.Pattern.{Matches}
 use Rattle.patterns.specs.Lists.{All}
-use Rattle.patterns.proofs.Lists.{all_append}
-use Rattle.patterns.specs.Longest.{Longest, Right, is_none, is_longest}
-use Rattle.patterns.proofs.Longest.{longest_right}
+use Rattle.patterns.specs.Longest.{Longest}
 use Rattle.tokens.specs.declared.Hit.{Hit}
 use Rattle.tokens.specs.Tokens.{Rule}
-use Rattle.tokens.specs.Scan.{hit, best}
+use Rattle.tokens.specs.Scan.{hit}
 
 -- r matches no prefix of s of n bytes or more
 abbrev pub Below : List ℕ → ℕ → Rule → Type 0

@@ -1,5 +1,6 @@
--- What a token is: the definitions (Kinds, Unicode, Tokens, Scan), the examples that pin them, and their laws.
+-- What a token is: the definitions (Kinds, Modes, Unicode, Tokens, Scan), the examples that pin them, and their laws.
 pub mod Kinds
+pub mod Modes
 pub mod Unicode
 pub mod Tokens
 pub mod Scan

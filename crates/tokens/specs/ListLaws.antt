@@ -1,19 +1,8 @@
 -- The list of tokens: it is the scan's answer and then the list from there, and it tiles the source. Since each token is at least
 -- one byte long, as many turns as there are bytes are enough, and more change nothing. Assumes nothing.
-use Prim.Native.Nat.{ℕ, zero, suc, min, ◌+◌, ◌-◌, ◌≤◌, ◌<◌, zero-le}
+use Prim.Native.Nat.{ℕ, ◌<◌}
 use Rattle.std.specs.Prelude.{◌≡◌, List, [], ◌∷◌}
-use Rattle.std.proofs.Math.Path.{refl}
-use Rattle.std.proofs.Common.{ap, ◌∙◌}
-use native.Mathlib.Omega.{arith}
-use Rattle.std.proofs.Math.ListN.{length}
-use Rattle.patterns.specs.Lists.{All}
-use Rattle.tokens.specs.declared.Mode.{Mode}
 use Rattle.tokens.specs.declared.Token.{Token}
-use Rattle.tokens.specs.declared.Scanned.{Scanned}
-use Rattle.tokens.specs.declared.Scanned.TheVariants.{End, Found}
-use Rattle.tokens.specs.Tokens.{Tables}
-use Rattle.tokens.specs.Scan.{scan, listing, onto, ends, list_first, list_from, tokens}
-use Rattle.tokens.specs.ScanLaws.{Step}
 
 -- the tokens lie one after the other from a to z, none of them empty
 abbrev pub Tiles : ℕ → ℕ → List Token → Type 0

@@ -1,11 +1,11 @@
 -- The marked cases of document 01 that are proved, as one list with a single statement.
 -- Each is computed by the definitions themselves. Assumes nothing.
-use Rattle.std.specs.Prelude.{ℕ, ◌≡◌, refl, List, [], ◌∷◌, map}
+use Rattle.std.specs.Prelude.{ℕ, List, [], ◌∷◌}
 use Rattle.tokens.specs.declared.Mode.{Mode}
 use Rattle.tokens.specs.declared.Mode.TheVariants.{Normal, HexPattern, HexJump}
 use Rattle.tokens.specs.declared.Token.{Token}
-use Rattle.tokens.specs.Tokens.{ascii, tables_1}
-use Rattle.tokens.specs.Scan.{token, listing, list_from}
+use Rattle.tokens.specs.Tokens.{ascii}
+use Rattle.tokens.specs.Scan.{token}
 
 -- a source, the mode that it is opened in, its tokens, and the mode at its end
 pub record Case : Type 0 where

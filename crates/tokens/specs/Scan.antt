@@ -1,6 +1,6 @@
 -- The scan: which token stands at a place of a source, in a mode, and in which mode scanning goes on; and the list of all tokens.
 -- Assumes nothing.
-use Rattle.std.specs.Prelude.{ℕ, zero, suc, ◌+◌, max, cond, not, ◌&&◌, List, [], ◌∷◌, length, drop, leb}
+use Rattle.std.specs.Prelude.{ℕ, zero, suc, ◌+◌, max, cond, not, ◌&&◌, List, [], ◌∷◌, length, drop, leb, Option, Some, None}
 use Rattle.patterns.specs.declared.Front.{Front}
 use Rattle.patterns.specs.declared.Front.TheVariants.{Whole, Broken}
 use Rattle.patterns.specs.Utf8.{decode}
@@ -10,8 +10,6 @@ use Rattle.tokens.specs.declared.Mode.TheVariants.{Normal, HexPattern, HexJump}
 use Rattle.tokens.specs.declared.Hit.{Hit}
 use Rattle.tokens.specs.declared.Choice.{Choice}
 use Rattle.tokens.specs.declared.Token.{Token}
-use Rattle.tokens.specs.declared.Scanned.{Scanned}
-use Rattle.tokens.specs.declared.Scanned.TheVariants.{End, Found}
 use Rattle.tokens.specs.Kinds.{INVALID_UTF8, UNKNOWN}
 use Rattle.tokens.specs.Unicode.{white}
 use Rattle.tokens.specs.Tokens.{Rule, Tables, normal_rules, pattern_rules, jump_rules}
@@ -64,16 +62,19 @@ unfolding best rules decode unmatched
 choose t [] s = unmatched (decode s) s
 choose t (m ∷ ms) s = let h = best (rules t m) s in let next = choose t ms s in or_else m h.kind h.len next
 
--- One scan.
+-- One scan: none at the end of the source; else the token, and the mode in which scanning goes on at its end.
+abbrev pub Scanned : Type 0
+Scanned = Option (Token × Mode)
+
 abbrev pub token : ℕ → ℕ → ℕ → Token
 token k a e = record { kind = k; start = record { 0 = a }; end = record { 0 = e } }
 
 abbrev pub found : ℕ → Choice → Scanned
-found at c = Found (token c.kind at (at + c.len)) c.mode
+found at c = Some (token c.kind at (at + c.len), c.mode)
 
 unfoldable pub scan_rest : Tables → Mode → ℕ → List ℕ → Scanned
 unfolding choose
-scan_rest t m at [] = End
+scan_rest t m at [] = None
 scan_rest t m at (b ∷ bs) = found at (choose t (tried m) (b ∷ bs))
 
 -- at the place `at` of a source, in the mode m
@@ -90,8 +91,8 @@ abbrev pub listing : List Token → Mode → Listing
 listing ts m = record { tokens = ts; mode = m }
 
 abbrev pub onto : Scanned → Mode → (ℕ → Mode → Listing) → Listing
-onto End m rest = listing [] m
-onto (Found x m') m rest = let l = rest x.end.0 m' in listing (x ∷ l.tokens) l.mode
+onto None m rest = listing [] m
+onto (Some (x, m')) m rest = let l = rest x.end.0 m' in listing (x ∷ l.tokens) l.mode
 
 -- where tokens that start at a place end: with the last of them
 abbrev pub ends : ℕ → List Token → ℕ

@@ -1,7 +1,14 @@
 // The types that every layer above shares, and names for the kinds. What a token is stands in specs/.
 #![tactic(auto)]
 
-// Document 01's kinds from 68 on. Keywords and operators go by their numbers.
+ghost use Rattle.std.specs.Prelude.{◌≡◌, ok_or};
+ghost use Rattle.tokens.specs.Modes.{number_of, mode_of};
+
+use std::error::Error;
+use std::fmt;
+
+// Document 01's kinds from 68 on. Keywords and operators go by their numbers. A kind stays a number and is no enum: a lent room may
+// hold any number at a slot's kind, and `token_room::read` promises that very number.
 pub const PATTERN_IDENT: u32 = 68;
 
 pub const PATTERN_COUNT: u32 = 69;
@@ -33,23 +40,64 @@ pub const INVALID_UTF8: u32 = 81;
 pub const UNKNOWN: u32 = 82;
 
 // A place in a source, in bytes from its start.
-#[derive(Clone, Copy)]
+#[derive(Clone, Copy, Debug, PartialEq, Eq, PartialOrd, Ord)]
 pub struct Offset(pub u32);
 
 // The number of a token, counted from the start of its source.
-#[derive(Clone, Copy)]
+#[derive(Clone, Copy, Debug, PartialEq, Eq, PartialOrd, Ord)]
 pub struct TokenIndex(pub u32);
 
 // The scanner's three modes.
-#[derive(Clone, Copy)]
+#[derive(Clone, Copy, Debug, PartialEq, Eq)]
 pub enum Mode {
     Normal,
     HexPattern,
     HexJump,
 }
 
+// A number that is no mode's.
+#[derive(Clone, Copy, Debug, PartialEq, Eq)]
+pub struct NotAMode(pub u32);
+
+impl fmt::Display for NotAMode {
+    fn fmt<W: fmt::Write>(&self, f: &mut fmt::Formatter<W>) -> fmt::Result {
+        write!(f, "{} is no mode's number", self.0)
+    }
+}
+
+impl Error for NotAMode {}
+
+impl From<Mode> for u32 {
+    ghost from_gives = { λ mode n. n ≡ number_of mode };
+
+    // The number of a mode: 0 normal, 1 pattern, 2 jump.
+    fn from(mode: Mode) -> u32 {
+        match mode {
+            Mode::Normal => 0,
+            Mode::HexPattern => 1,
+            Mode::HexJump => 2,
+        }
+    }
+}
+
+impl TryFrom<u32> for Mode {
+    type Error = NotAMode;
+
+    ghost try_from_gives = { λ number answer. answer ≡ ok_or (mode_of number) (record { 0 = number }) };
+
+    // The mode of a number.
+    fn try_from(number: u32) -> Result<Mode, NotAMode> {
+        match number {
+            0 => Ok(Mode::Normal),
+            1 => Ok(Mode::HexPattern),
+            2 => Ok(Mode::HexJump),
+            _ => Err(NotAMode(number)),
+        }
+    }
+}
+
 // A token: its kind by document 01's numbers, where it starts, and where it ends, the end excluded.
-#[derive(Clone, Copy)]
+#[derive(Clone, Copy, Debug, PartialEq, Eq)]
 pub struct Token {
     pub kind: u32,
     pub start: Offset,
@@ -69,11 +117,4 @@ pub struct Choice {
     pub kind: u32,
     pub len: usize,
     pub mode: Mode,
-}
-
-// What one scan finds: no token, the source being at its end; or a token, and the mode in which scanning goes on at its end.
-#[derive(Clone, Copy)]
-pub enum Scanned {
-    End,
-    Found(Token, Mode),
 }
