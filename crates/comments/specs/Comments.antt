@@ -1,15 +1,14 @@
 -- Inside a block comment what is left of its pattern goes by one thing alone: whether a star stands before. Said once for comments of
 -- bytes and of characters, since both take a byte below 0x80 as it is. Assumes nothing.
-use Rattle.std.specs.Prelude.{ℕ, ◌+◌, ◌≤◌, ◌<◌, ◌≡◌, Bool, ◌&&◌, List, [], ◌∷◌, length, get_or, drop, leb}
+use Rattle.std.specs.Prelude.{ℕ, ◌+◌, ◌≤◌, ◌<◌, ◌≡◌, Bool, ◌&&◌, List, [], ◌∷◌, length, get_or, drop, leb, None}
 use Rattle.std.proofs.Math.Path.{refl}
 use Rattle.std.proofs.Math.Bool.{true, false, cond}
 use Rattle.std.proofs.Common.{arith}
 use Rattle.std.proofs.Math.Dec.{eqb}
 use borrow.Author.Tests.{eqb-true, ne_eqb, le-leb, leb-true, leb-false}
-use Rattle.patterns.specs.declared.Front.TheVariants.{Whole, Broken}
 use Rattle.patterns.specs.declared.Lead.{Lead}
 use Rattle.patterns.specs.declared.Lead.TheVariants.{Alone, More, Bad}
-use Rattle.patterns.specs.Utf8.{Class, lead, decode}
+use Rattle.patterns.specs.Utf8.{Class, lead, decode, whole}
 use Rattle.patterns.specs.Pattern.{Pat, empty, byte, char, seq, star, plus, follow, row, nullable, if_in, deriv, longest}
 use Rattle.patterns.specs.Walk.{Came}
 use Rattle.patterns.proofs.Walk.{move, done, over, Opens, char_in, char_broken}
@@ -118,10 +117,10 @@ module _ (chars t : Bool) {p : Pat} {s : List ℕ} {at i b : ℕ} (c : Came p s 
       unfolding unit
       opens = rw on (inside_opens t (get_or s i 0) (leb-true 0x80 (get_or s i 0) wide))
 
-      pub comment_char : {v n : ℕ} → decode (drop i s) ≡ Whole v n → Came p s at (inside (unit chars) false) (i + n) b
+      pub comment_char : {v n : ℕ} → decode (drop i s) ≡ whole v n → Came p s at (inside (unit chars) false) (i + n) b
       comment_char {v} d =
           rw (inside_not_empty (unit chars) t) at
           (char_in (inner t) (inside (unit chars) false) c opens d (inner_wide t v (beyond s i h d (leb-true 0x80 (get_or s i 0) wide))))
 
-      pub comment_broken : decode (drop i s) ≡ Broken → b ≡ at + longest p (drop at s)
+      pub comment_broken : decode (drop i s) ≡ None → b ≡ at + longest p (drop at s)
       comment_broken d = rw (inside_not_empty (unit chars) t) at (char_broken (inner t) (inside (unit chars) false) c opens d)

@@ -6,8 +6,6 @@ ghost use Rattle.patterns.specs.Pattern.{byte, char, longest};
 ghost use Rattle.tokens.specs.Tokens.{block_comment, line_comment};
 ghost use Rattle.comments.specs.Comments.{unit};
 
-use patterns::Front;
-
 // The end of the line comment at `at`, or `at` where there is none.
 pub fn line_comment(src: &[u8], at: usize) -> usize
     ensures { result ≡ at + longest line_comment (drop at src.now) }
@@ -35,11 +33,11 @@ fn block(src: &[u8], at: usize, chars: bool) -> usize
         let b = src[i];
         if chars && 0x80 <= b {
             match utf8::decode_at(src, i) {
-                Front::Whole(_, n) => {
-                    i += n;
+                Some(c) => {
+                    i += c.len;
                     star = false;
                 }
-                Front::Broken => {
+                None => {
                     return at;
                 }
             }

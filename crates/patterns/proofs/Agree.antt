@@ -1,14 +1,13 @@
 -- Two classes that agree on the characters of a text have the same runs there: a run goes on by what is decoded, and a decoded
 -- character is never empty, so that the text gets shorter. Assumes nothing.
 use Prim.Native.Nat.{ℕ, zero, suc, ◌+◌, ◌≤◌}
-use Rattle.std.specs.Prelude.{◌≡◌, Bool, drop}
+use Rattle.std.specs.Prelude.{◌≡◌, Bool, drop, Option, Some, None}
 use Rattle.std.proofs.Math.Path.{refl, sym}
 use Rattle.std.proofs.Common.{ap, ◌∙◌, arith, drop-drop}
 use Rattle.std.proofs.Math.Bool.{true, false}
 use mathlib.Core.List.{List, [], ◌∷◌}
 use Rattle.std.proofs.Math.ListN.{length, length-drop}
-use Rattle.patterns.specs.declared.Front.{Front}
-use Rattle.patterns.specs.declared.Front.TheVariants.{Whole, Broken}
+use Rattle.patterns.specs.declared.Char.{Char}
 use Rattle.patterns.specs.Utf8.{Class, decode}
 use Rattle.patterns.proofs.Utf8Laws.{decoded_size}
 use Rattle.patterns.specs.Pattern.{byte, char, seq, star, follow, if_in, walk, longest}
@@ -28,13 +27,13 @@ module _ (p q : Class) where
       walk_char p (star (char p)) (star (char p)) s k b refl ∙ go (decode s) refl (λ n l. run_agree turns (drop n s) l (agree_drop s n a) (k + n) k)
       ∙ sym (walk_char q (star (char q)) (star (char q)) s k b refl)
     where
-      go : (d : Front) → decode s ≡ d → ((n : ℕ) → length (drop n s) ≤ turns → walk (star (char p)) (drop n s) (k + n) k ≡ walk (star (char q)) (drop n s) (k + n) k)
+      go : (d : Option Char) → decode s ≡ d → ((n : ℕ) → length (drop n s) ≤ turns → walk (star (char p)) (drop n s) (k + n) k ≡ walk (star (char q)) (drop n s) (k + n) k)
           → char_then p (star (char p)) d s k k ≡ char_then q (star (char q)) d s k k
-      go Broken e f = refl
-      go (Whole v n) e f =
-          let z : (1 ≤ n) × (n ≤ length s) = decoded_size s v n e in
-          let g : walk (star (char p)) (drop n s) (k + n) k ≡ walk (star (char q)) (drop n s) (k + n) k = f n (omega (arith, length-drop n s, z.0, z.1)) in
-          rw (a 0 v n e, g)
+      go None e f = refl
+      go (Some c) e f =
+          let z = decoded_size s c.value c.len e in
+          let g : walk (star (char p)) (drop c.len s) (k + c.len) k ≡ walk (star (char q)) (drop c.len s) (k + c.len) k = f c.len (omega (arith, length-drop c.len s, z.0, z.1)) in
+          rw (a 0 c.value c.len e, g)
 
   -- a byte of the class c, and then a run
   pub longest_agree : (c : Class) (s : List ℕ) → Agree p q s → longest (seq (byte c) (star (char p))) s ≡ longest (seq (byte c) (star (char q))) s

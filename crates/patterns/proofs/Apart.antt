@@ -6,7 +6,7 @@ use Rattle.std.proofs.lemmas.Bool.{false≢true, not-true}
 use Rattle.patterns.specs.Utf8.{Class}
 use Rattle.patterns.specs.Pattern.{Pat, nothing, empty, byte, char, part, seq, alt, star, Many, done, again, Matches, nullable, is_nothing, deriv}
 use Rattle.patterns.proofs.Bools.{and_both, and_first, and_second, or_cases, by_test}
-use Rattle.patterns.specs.Lists.{All, each, members}
+use Rattle.patterns.specs.Lists.{each}
 use Rattle.patterns.proofs.Lists.{all_append, each_member}
 use Rattle.patterns.proofs.Meaning.{none_of_nothing, null_means, deriv_means}
 use Rattle.patterns.specs.Apart.{Bytes, Disjoint, Only, apart, each_byte, live, needs, parted, within}

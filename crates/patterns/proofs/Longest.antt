@@ -6,7 +6,7 @@ use Rattle.std.proofs.lemmas.Bool.{false≢true}
 use Rattle.patterns.specs.Pattern.{Pat, Matches, nullable, deriv, walk, longest}
 use Rattle.patterns.specs.Meaning.{Same}
 use Rattle.patterns.proofs.Meaning.{null_means, deriv_means}
-use Rattle.patterns.specs.Longest.{Ends, Longest, NoPrefix, Right, at_best, at_match, is_longest, is_none}
+use Rattle.patterns.specs.Longest.{Ends, Right, at_best, at_match, is_longest, is_none}
 
 -- at the end of the text only the empty prefix is left
 none_left : (r : Pat) → nullable r ≡ false → (m : ℕ) → m ≤ 0 → Matches r (take m []) → ⊥

@@ -1,15 +1,15 @@
 -- What the computed forms of a pattern match: `either` what `alt` does, `follow` what `seq` does, `nullable` says whether the empty
 -- text is matched, and `deriv b r` matches s exactly where r matches b ∷ s. Each by cases on the pattern. Assumes nothing.
-use Rattle.std.specs.Prelude.{ℕ, zero, suc, ◌≡◌, refl, Bool, true, false, cond, ◌↔◌, ◌⊎◌, List, [], ◌∷◌, ◌++◌, length}
+use Rattle.std.specs.Prelude.{ℕ, zero, suc, ◌≡◌, refl, Bool, true, false, cond, ◌↔◌, ◌⊎◌, List, [], ◌∷◌, ◌++◌, length, Option, None}
 use Rattle.std.proofs.Common.{sym, ap, ◌∙◌, inl, inr, ⊎_elim, append_assoc, arith}
 use Rattle.std.proofs.lemmas.Bool.{false≢true}
 use mathlib.Core.Logic.Iff
-use Rattle.patterns.specs.declared.Front.{Front}
-use Rattle.patterns.specs.declared.Front.TheVariants.{Whole, Broken}
+use Rattle.patterns.specs.declared.Char.{Char}
 use Rattle.patterns.specs.declared.Lead.{Lead}
 use Rattle.patterns.specs.declared.Lead.TheVariants.{Alone, More, Bad}
-use Rattle.patterns.specs.Utf8.{Class, between, lead, join, longer, finish, after_lead, decode}
-use Rattle.patterns.proofs.Utf8Laws.{never, shorter}
+use Rattle.patterns.specs.Utf8.{Class, between, lead, join, longer, finish, after_lead, decode, whole}
+use Rattle.std.proofs.lemmas.Option.{none-some}
+use Rattle.patterns.proofs.Utf8Laws.{parts, shorter}
 use Rattle.patterns.specs.Pattern.{Pat, nothing, empty, byte, char, part, seq, alt, star, OneByte, OneChar, Split, Many, done, again, Matches, follow}
 use Rattle.patterns.specs.Pattern.{nullable, is_nothing, either, if_in, char_after, part_after, deriv}
 use Rattle.patterns.proofs.Bools.{and_both, and_first, and_second, or_first, or_second, or_cases}
@@ -94,8 +94,8 @@ back_nil (x ∷ s) t e = cc
 no_cons : (b : ℕ) (s : List ℕ) → [] ≡ b ∷ s → ⊥
 no_cons b s e = let z : ◌≡◌ {A = ℕ} 0 1 = cc in omega arith
 
-no_char : (p : Class) (n : ℕ) → OneChar p Broken n → ⊥
-no_char p n m = never m.read
+no_char : (p : Class) (n : ℕ) → OneChar p None n → ⊥
+no_char p n m = none-some _ m.read
 
 pub null_means : (r : Pat) → nullable r ≡ true ↔ Matches r []
 unfolding decode finish
@@ -132,27 +132,26 @@ length_nil : (u : List ℕ) → length u ≡ 0 → u ≡ []
 length_nil [] e = refl
 length_nil (x ∷ u) e = absurd (omega arith)
 
-last_means : (p : Class) (v : ℕ) (s : List ℕ) → Matches (if_in (p v)) s ↔ OneChar p (Whole v 1) (suc (length s))
+last_means : (p : Class) (v : ℕ) (s : List ℕ) → Matches (if_in (p v)) s ↔ OneChar p (whole v 1) (suc (length s))
 last_means p v s = (
   λ m.
       let h : (s ≡ []) × (p v ≡ true) = (if_means (p v) s).0 m in
-      record { value = v; read = ap (λ (l : List ℕ). Whole v (suc (length l))) (sym h.0); fits = h.1 },
+      record { value = v; read = ap (λ (l : List ℕ). whole v (suc (length l))) (sym h.0); fits = h.1 },
   λ m.
-      let e : v ≡ m.value = cc m.read in
-      let f : 1 ≡ suc (length s) = cc m.read in
+      let (e, f) = parts m.read in
       (if_means (p v) s).1 (length_nil s (omega arith), ap p e ∙ m.fits),
 )
 
-longer_means : (p : Class) (f : Front) (n : ℕ) → OneChar p f n ↔ OneChar p (longer f) (suc n)
+longer_means : (p : Class) (f : Option Char) (n : ℕ) → OneChar p f n ↔ OneChar p (longer f) (suc n)
 longer_means p f n = (
   λ m. record { value = m.value; read = ap longer m.read; fits = m.fits },
   λ m.
       let s = shorter f m.read in
       let e : s.0 ≡ n = omega (arith, s.2) in
-      record { value = m.value; read = s.1 ∙ ap (Whole m.value) e; fits = m.fits },
+      record { value = m.value; read = s.1 ∙ ap (whole m.value) e; fits = m.fits },
 )
 
-none_means : (p : Class) (n : ℕ) → ⊥ ↔ OneChar p Broken n
+none_means : (p : Class) (n : ℕ) → ⊥ ↔ OneChar p None n
 none_means p n = (λ m. absurd m, no_char p n)
 
 lead_means : (p : Class) (b : ℕ) (l : Lead) (s : List ℕ) → Matches (char_after p b l) s ↔ OneChar p (after_lead b l s) (suc (length s))
@@ -166,12 +165,12 @@ part_means : (p : Class) (low high k bits b : ℕ) (s : List ℕ)
 unfolding finish
 part_means p low high zero bits b s = go (between low high b) (join bits b)
   where
-    go : (t : Bool) (w : ℕ) → Matches (part_after t p 0 w) s ↔ OneChar p (cond t (Whole w 1) Broken) (suc (length s))
+    go : (t : Bool) (w : ℕ) → Matches (part_after t p 0 w) s ↔ OneChar p (cond t (whole w 1) None) (suc (length s))
     go true w = last_means p w s
     go false w = none_means p (suc (length s))
 part_means p low high (suc k) bits b s = go (between low high b) (join bits b)
   where
-    go : (t : Bool) (w : ℕ) → Matches (part_after t p (suc k) w) s ↔ OneChar p (cond t (longer (finish 0x80 0xBF k w s)) Broken) (suc (length s))
+    go : (t : Bool) (w : ℕ) → Matches (part_after t p (suc k) w) s ↔ OneChar p (cond t (longer (finish 0x80 0xBF k w s)) None) (suc (length s))
     go true w = longer_means p (finish 0x80 0xBF k w s) (length s)
     go false w = none_means p (suc (length s))
 

@@ -1,7 +1,7 @@
 -- The laws by which the proof of a scanning loop goes. The loop's invariant is `Came`: of the pattern p, sought from the place `at`,
 -- q is left at the place i, and b is the end of the longest match so far; each law is one turn of `walk`. Assumes nothing.
 use Prim.Native.Nat.{ℕ, zero, suc, ◌+◌, ◌≤◌, ◌<◌}
-use Rattle.std.specs.Prelude.{◌≡◌, Bool, ◌&&◌, get_or, drop, eqb}
+use Rattle.std.specs.Prelude.{◌≡◌, Bool, ◌&&◌, get_or, drop, eqb, Option, Some, None}
 use Rattle.std.proofs.Math.Path.{refl, sym, ap}
 use Rattle.std.proofs.Common.{◌∙◌, zero-add, add-suc, suc-add, length-drop, drop-drop, get_or-drop}
 use Rattle.std.proofs.Math.Bool.{true, false, cond}
@@ -14,11 +14,10 @@ use Rattle.std.proofs.Math.Decide.{dec_lt}
 use Rattle.std.proofs.Math.ListN.{length, drop_of_length-le, get_or-eq_default}
 use Rattle.std.proofs.Math.Seq.{drop-cons}
 use borrow.Author.Tests.{eq-eqb, ne_eqb}
-use Rattle.patterns.specs.declared.Front.{Front}
-use Rattle.patterns.specs.declared.Front.TheVariants.{Whole, Broken}
+use Rattle.patterns.specs.declared.Char.{Char}
 use Rattle.patterns.specs.declared.Lead.{Lead}
 use Rattle.patterns.specs.declared.Lead.TheVariants.{Alone, More, Bad}
-use Rattle.patterns.specs.Utf8.{Class, between, lead, join, longer, finish, after_lead, decode}
+use Rattle.patterns.specs.Utf8.{Class, between, lead, join, longer, finish, after_lead, decode, whole}
 use Rattle.patterns.proofs.Bools.{and_second}
 use Rattle.patterns.specs.Pattern.{Pat, nothing, empty, part, seq, literal, follow, nullable, if_in, char_after, part_after, deriv, walk, longest}
 use Rattle.patterns.specs.Walk.{Came, Text, char_then, next, prefix, read, span}
@@ -206,12 +205,12 @@ module _ (f : Class) where
 -- One character.
 
 module _ (f : Class) (r : Pat) where
-  then_longer : (d : Front) (x : ℕ) (xs : List ℕ) (k b : ℕ) → char_then f r d xs (suc k) b ≡ char_then f r (longer d) (x ∷ xs) k b
+  then_longer : (d : Option Char) (x : ℕ) (xs : List ℕ) (k b : ℕ) → char_then f r d xs (suc k) b ≡ char_then f r (longer d) (x ∷ xs) k b
   unfolding char_then
-  then_longer (Whole v n) x xs k b = rw (suc-add, ← add-suc)
-  then_longer Broken x xs k b = refl
+  then_longer (Some c) x xs k b = rw (suc-add, ← add-suc)
+  then_longer None x xs k b = refl
 
-  then_last : (v x : ℕ) (xs : List ℕ) (k b : ℕ) → walk (follow (if_in (f v)) r) xs (suc k) b ≡ char_then f r (Whole v 1) (x ∷ xs) k b
+  then_last : (v x : ℕ) (xs : List ℕ) (k b : ℕ) → walk (follow (if_in (f v)) r) xs (suc k) b ≡ char_then f r (whole v 1) (x ∷ xs) k b
   unfolding char_then
   then_last v x xs k b = rw add-one (go (f v))
     where
@@ -224,13 +223,13 @@ module _ (f : Class) (r : Pat) where
   walk_part [] low high m bits k b = refl
   walk_part (x ∷ xs) low high zero bits k b = go (between low high x) (join bits x)
     where
-      go : (t : Bool) (w : ℕ) → walk (follow (part_after t f 0 w) r) xs (suc k) b ≡ char_then f r (cond t (Whole w 1) Broken) (x ∷ xs) k b
+      go : (t : Bool) (w : ℕ) → walk (follow (part_after t f 0 w) r) xs (suc k) b ≡ char_then f r (cond t (whole w 1) None) (x ∷ xs) k b
       go true w = then_last w x xs k b
       go false w = dead xs (suc k) b
   walk_part (x ∷ xs) low high (suc m) bits k b = go (between low high x) (join bits x) (walk_part xs 0x80 0xBF m (join bits x) (suc k) b)
     where
       go : (t : Bool) (w : ℕ) → walk (seq (part f 0x80 0xBF m w) r) xs (suc k) b ≡ char_then f r (finish 0x80 0xBF m w xs) xs (suc k) b
-          → walk (follow (part_after t f (suc m) w) r) xs (suc k) b ≡ char_then f r (cond t (longer (finish 0x80 0xBF m w xs)) Broken) (x ∷ xs) k b
+          → walk (follow (part_after t f (suc m) w) r) xs (suc k) b ≡ char_then f r (cond t (longer (finish 0x80 0xBF m w xs)) None) (x ∷ xs) k b
       go true w e = e ∙ then_longer (finish 0x80 0xBF m w xs) x xs k b
       go false w e = dead xs (suc k) b
 
@@ -254,16 +253,16 @@ module _ (f : Class) (r : Pat) where
     char_front = c.same ∙ walk_char q (drop i s) i b (rw (get_or-drop i s 0 0, add-zero) o)
 
     -- a character of the class
-    pub char_in : {v n : ℕ} → decode (drop i s) ≡ Whole v n → f v ≡ true → Came p s at r (i + n) (cond (nullable q) i b)
+    pub char_in : {v n : ℕ} → decode (drop i s) ≡ whole v n → f v ≡ true → Came p s at r (i + n) (cond (nullable q) i b)
     unfolding char_then
     char_in {v} {n} d e = record { same = char_front ∙ rw (d, e, drop-drop) }
 
     -- another, or none
-    pub char_out : {v n : ℕ} → decode (drop i s) ≡ Whole v n → f v ≡ false → cond (nullable q) i b ≡ at + longest p (drop at s)
+    pub char_out : {v n : ℕ} → decode (drop i s) ≡ whole v n → f v ≡ false → cond (nullable q) i b ≡ at + longest p (drop at s)
     unfolding char_then
     char_out d e = sym (char_front ∙ rw (d, e))
 
-    pub char_broken : decode (drop i s) ≡ Broken → cond (nullable q) i b ≡ at + longest p (drop at s)
+    pub char_broken : decode (drop i s) ≡ None → cond (nullable q) i b ≡ at + longest p (drop at s)
     unfolding char_then
     char_broken d = sym (char_front ∙ rw d)
 

@@ -1,10 +1,8 @@
 -- Two patterns with no text in common, by tests that are computed: byte by byte, as long as both are alive, they are never both done
 -- (`apart`; `deriv_means` takes a byte off both); or one `needs` a byte that the other, `within` a class, never has. Assumes nothing.
-use Rattle.std.specs.Prelude.{ℕ, zero, suc, ◌<◌, ◌≡◌, refl, Bool, true, false, not, ◌&&◌, ◌||◌, List, [], ◌∷◌, ◌++◌}
-use Rattle.std.proofs.Common.{sym, ap, ◌∙◌, true≢false, ⊎_elim}
-use Rattle.std.proofs.lemmas.Bool.{false≢true, not-true}
+use Rattle.std.specs.Prelude.{ℕ, zero, suc, ◌<◌, ◌≡◌, Bool, true, false, not, ◌&&◌, ◌||◌, List}
 use Rattle.patterns.specs.Utf8.{Class}
-use Rattle.patterns.specs.Pattern.{Pat, nothing, empty, byte, char, part, seq, alt, star, Many, done, again, Matches, nullable, is_nothing, deriv}
+use Rattle.patterns.specs.Pattern.{Pat, nothing, empty, byte, char, part, seq, alt, star, Matches, nullable, is_nothing, deriv}
 use Rattle.patterns.specs.Lists.{All, each, members}
 
 -- a text of bytes

@@ -1,10 +1,7 @@
 -- `longest` is right for the plain meaning: the prefix of that length is matched, and no longer one is. By induction on the text:
 -- `deriv_means` takes a byte off both sides, and `best` is what `nullable` said of the prefixes so far. Assumes nothing.
-use Rattle.std.specs.Prelude.{ℕ, zero, suc, ◌+◌, ◌≤◌, ◌<◌, ◌≡◌, refl, Bool, true, false, cond, List, [], ◌∷◌, length, take}
-use Rattle.std.proofs.Common.{zero-le, suc-le-suc, sym, ◌∙◌, le_of_suc-le-suc, add-zero, arith}
-use Rattle.std.proofs.lemmas.Bool.{false≢true}
-use Rattle.patterns.specs.Pattern.{Pat, Matches, nullable, deriv, walk, longest}
-use Rattle.patterns.specs.Meaning.{Same}
+use Rattle.std.specs.Prelude.{ℕ, ◌+◌, ◌≤◌, ◌<◌, ◌≡◌, List, length, take}
+use Rattle.patterns.specs.Pattern.{Pat, Matches}
 
 -- n is the length of the longest prefix of s that r matches
 pub record Longest (r : Pat) (s : List ℕ) (n : ℕ) : Type 0 where

@@ -1,11 +1,10 @@
 -- A small pattern language over bytes: what a pattern is, which texts it matches, and how its longest match is computed.
 -- Assumes nothing.
-use Rattle.std.specs.Prelude.{ℕ, zero, suc, ◌≡◌, refl, Bool, true, false, cond, ◌&&◌, ◌||◌, ◌⊎◌, List, [], ◌∷◌, ◌++◌, length, eqb}
-use Rattle.patterns.specs.declared.Front.{Front}
-use Rattle.patterns.specs.declared.Front.TheVariants.{Whole}
+use Rattle.std.specs.Prelude.{ℕ, zero, suc, ◌≡◌, Bool, true, false, cond, ◌&&◌, ◌||◌, ◌⊎◌, List, [], ◌∷◌, ◌++◌, length, eqb, Option}
+use Rattle.patterns.specs.declared.Char.{Char}
 use Rattle.patterns.specs.declared.Lead.{Lead}
 use Rattle.patterns.specs.declared.Lead.TheVariants.{Alone, More, Bad}
-use Rattle.patterns.specs.Utf8.{Class, between, lead, join, finish, decode}
+use Rattle.patterns.specs.Utf8.{Class, between, lead, join, finish, decode, whole}
 
 -- A pattern. `byte` takes one byte of a class, `char` one well-formed character of a class, and `part` what is left of a character
 -- once some of its bytes are read, as `finish` reads it.
@@ -25,9 +24,9 @@ pub record OneByte (p : Class) (u : List ℕ) : Type 0 where
   pub fits : p value ≡ true
 
 -- one whole character of n bytes, of the class p
-pub record OneChar (p : Class) (f : Front) (n : ℕ) : Type 0 where
+pub record OneChar (p : Class) (f : Option Char) (n : ℕ) : Type 0 where
   pub value : ℕ
-  pub read : f ≡ Whole value n
+  pub read : f ≡ whole value n
   pub fits : p value ≡ true
 
 -- a text of P and then one of Q

@@ -1,8 +1,7 @@
 -- UTF-8 as the Unicode Standard has it: which bytes are one character (Table 3-7), and how a scalar value is written (Table 3-6).
 -- Assumes nothing.
-use Rattle.std.specs.Prelude.{ℕ, zero, suc, ◌+◌, ◌*◌, ◌-◌, ◌/◌, ◌%◌, ◌≤◌, ◌<◌, Bool, cond, ◌&&◌, ◌⊎◌, List, [], ◌∷◌, leb, ltb}
-use Rattle.patterns.specs.declared.Front.{Front}
-use Rattle.patterns.specs.declared.Front.TheVariants.{Whole, Broken}
+use Rattle.std.specs.Prelude.{ℕ, zero, suc, ◌+◌, ◌*◌, ◌-◌, ◌/◌, ◌%◌, ◌≤◌, ◌<◌, Bool, cond, ◌&&◌, ◌⊎◌, List, [], ◌∷◌, leb, ltb, Option, Some, None}
+use Rattle.patterns.specs.declared.Char.{Char}
 use Rattle.patterns.specs.declared.Lead.{Lead}
 use Rattle.patterns.specs.declared.Lead.TheVariants.{Alone, More, Bad}
 
@@ -31,25 +30,30 @@ lead b =
 abbrev pub join : ℕ → ℕ → ℕ
 join bits b = bits * 64 + (b - 0x80)
 
-abbrev pub longer : Front → Front
-longer (Whole v n) = Whole v (suc n)
-longer Broken = Broken
+-- one well-formed character, of the scalar value v, in n bytes
+abbrev pub whole : ℕ → ℕ → Option Char
+whole v n = Some (record { value = v; len = n })
+
+-- the same character with one byte more in front
+abbrev pub longer : Option Char → Option Char
+longer (Some c) = whole c.value (suc c.len)
+longer None = None
 
 -- the rest of a character: a byte in low..high, and k more
-unfoldable pub finish : ℕ → ℕ → ℕ → ℕ → List ℕ → Front
-finish low high k bits [] = Broken
-finish low high zero bits (b ∷ bs) = cond (between low high b) (Whole (join bits b) 1) Broken
-finish low high (suc k) bits (b ∷ bs) = cond (between low high b) (longer (finish 0x80 0xBF k (join bits b) bs)) Broken
+unfoldable pub finish : ℕ → ℕ → ℕ → ℕ → List ℕ → Option Char
+finish low high k bits [] = None
+finish low high zero bits (b ∷ bs) = cond (between low high b) (whole (join bits b) 1) None
+finish low high (suc k) bits (b ∷ bs) = cond (between low high b) (longer (finish 0x80 0xBF k (join bits b) bs)) None
 
-unfoldable pub after_lead : ℕ → Lead → List ℕ → Front
+unfoldable pub after_lead : ℕ → Lead → List ℕ → Option Char
 unfolding finish
-after_lead b Alone bs = Whole b 1
+after_lead b Alone bs = whole b 1
 after_lead b (More low high k bits) bs = longer (finish low high k bits bs)
-after_lead b Bad bs = Broken
+after_lead b Bad bs = None
 
-unfoldable pub decode : List ℕ → Front
+unfoldable pub decode : List ℕ → Option Char
 unfolding lead after_lead
-decode [] = Broken
+decode [] = None
 decode (b ∷ bs) = after_lead b (lead b) bs
 
 -- A scalar value: at most 10FFFF, and no surrogate.

@@ -1,12 +1,9 @@
 -- UTF-8 reads what it writes, and nothing else: the encoding of each scalar value decodes to it, and whatever decodes is such an encoding.
 -- Row by row, Table 3-7 allows just the first two bytes that Table 3-6 makes; each byte after them is six bits either way. Assumes nothing.
-use Rattle.std.specs.Prelude.{ℕ, zero, suc, ◌+◌, ◌/◌, ◌≤◌, ◌<◌, max, ◌≡◌, refl, Bool, true, false, cond, ◌&&◌, ◌≢◌, List, [], ◌∷◌, ◌++◌, length, take, leb, ltb}
-use Rattle.std.proofs.Common.{ap, ◌∙◌, inl, inr, arith, length-take, lt-ltb, le-ltb, ltb-true, ltb-false, le-leb, leb-true, leb-false}
-use Rattle.patterns.specs.declared.Front.{Front}
-use Rattle.patterns.specs.declared.Front.TheVariants.{Whole, Broken}
+use Rattle.std.specs.Prelude.{ℕ, zero, suc, ◌+◌, ◌/◌, ◌≤◌, ◌<◌, ◌≡◌, ◌≢◌, List, [], ◌∷◌, length, take}
 use Rattle.patterns.specs.declared.Lead.{Lead}
 use Rattle.patterns.specs.declared.Lead.TheVariants.{Alone, More, Bad}
-use Rattle.patterns.specs.Utf8.{between, lead, join, longer, finish, after_lead, decode, Scalar, trail, encode}
+use Rattle.patterns.specs.Utf8.{Scalar, trail, encode}
 
 -- v without its last k groups of six bits
 abbrev pub shift : ℕ → ℕ → ℕ

@@ -1,25 +1,12 @@
 -- The laws by which the proof of a scanning loop goes. The loop's invariant is `Came`: of the pattern p, sought from the place `at`,
 -- q is left at the place i, and b is the end of the longest match so far; each law is one turn of `walk`. Assumes nothing.
-use Prim.Native.Nat.{ℕ, zero, suc, ◌+◌, ◌≤◌, ◌<◌}
-use Rattle.std.specs.Prelude.{◌≡◌, Bool, ◌&&◌, get_or, drop, eqb}
-use Rattle.std.proofs.Math.Path.{refl, sym, ap}
-use Rattle.std.proofs.Common.{◌∙◌, zero-add, add-suc, suc-add, length-drop, drop-drop, get_or-drop}
+use Prim.Native.Nat.{ℕ, suc, ◌+◌}
+use Rattle.std.specs.Prelude.{◌≡◌, Bool, ◌&&◌, drop, eqb, Option, Some, None}
 use Rattle.std.proofs.Math.Bool.{true, false, cond}
-use Rattle.std.proofs.lemmas.Bool.{false≢true}
 use mathlib.Core.List.{List, [], ◌∷◌}
-use Rattle.std.proofs.Math.Nat.{add-zero}
-use Rattle.std.proofs.Math.Numerals.{add-one}
-use native.Mathlib.Omega.{arith}
-use Rattle.std.proofs.Math.Decide.{dec_lt}
-use Rattle.std.proofs.Math.ListN.{length, drop_of_length-le, get_or-eq_default}
-use Rattle.std.proofs.Math.Seq.{drop-cons}
-use borrow.Author.Tests.{eq-eqb, ne_eqb}
-use Rattle.patterns.specs.declared.Front.{Front}
-use Rattle.patterns.specs.declared.Front.TheVariants.{Whole, Broken}
-use Rattle.patterns.specs.declared.Lead.{Lead}
-use Rattle.patterns.specs.declared.Lead.TheVariants.{Alone, More, Bad}
-use Rattle.patterns.specs.Utf8.{Class, between, lead, join, longer, finish, after_lead, decode}
-use Rattle.patterns.specs.Pattern.{Pat, nothing, empty, part, seq, literal, follow, nullable, if_in, char_after, part_after, deriv, walk, longest}
+use Rattle.patterns.specs.declared.Char.{Char}
+use Rattle.patterns.specs.Utf8.{Class}
+use Rattle.patterns.specs.Pattern.{Pat, follow, nullable, if_in, deriv, walk, longest}
 
 -- The walk itself.
 
@@ -38,9 +25,9 @@ span f (x ∷ xs) = cond (f x) (suc (span f xs)) 0
 -- One character.
 
 -- the walk over a character of the class f and then r, by what stands at the front
-unfoldable pub char_then : Class → Pat → Front → List ℕ → ℕ → ℕ → ℕ
-char_then f r (Whole v n) xs k b = cond (f v) (walk r (drop n xs) (k + n) b) b
-char_then f r Broken xs k b = b
+unfoldable pub char_then : Class → Pat → Option Char → List ℕ → ℕ → ℕ → ℕ
+char_then f r (Some c) xs k b = cond (f c.value) (walk r (drop c.len xs) (k + c.len) b) b
+char_then f r None xs k b = b
 
 -- A spelling.
 

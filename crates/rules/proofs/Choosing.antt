@@ -1,11 +1,10 @@
 -- From the longest match of a mode to the token: each law is one clause of the definition, read at a place of a source.
 -- Assumes nothing.
 use Prim.Native.Nat.{ℕ, zero, suc, ◌+◌, ◌≤◌, ◌<◌}
-use Rattle.std.specs.Prelude.{◌≡◌, List, [], ◌∷◌, length, drop}
+use Rattle.std.specs.Prelude.{◌≡◌, List, [], ◌∷◌, length, drop, None}
 use Rattle.std.proofs.Math.Path.{refl, sym, ap}
 use Rattle.std.proofs.Common.{◌∙◌, arith, length-drop}
-use Rattle.patterns.specs.declared.Front.TheVariants.{Whole, Broken}
-use Rattle.patterns.specs.Utf8.{decode}
+use Rattle.patterns.specs.Utf8.{decode, whole}
 use Rattle.tokens.specs.declared.Hit.{Hit}
 use Rattle.tokens.specs.declared.Mode.{Mode}
 use Rattle.tokens.specs.declared.Mode.TheVariants.{Normal}
@@ -18,11 +17,11 @@ use Rattle.rules.specs.Choosing.{unknown_of}
 
 module _ (t : Tables) (s : List ℕ) where
   -- no rule of the modes matches
-  pub broken_byte : decode s ≡ Broken → chosen INVALID_UTF8 1 Normal ≡ choose t [] s
+  pub broken_byte : decode s ≡ None → chosen INVALID_UTF8 1 Normal ≡ choose t [] s
   unfolding choose unmatched
   broken_byte e = rw e
 
-  pub unknown_text : (v n : ℕ) → decode s ≡ Whole v n → unknown_of s ≡ choose t [] s
+  pub unknown_text : (v n : ℕ) → decode s ≡ whole v n → unknown_of s ≡ choose t [] s
   unfolding choose unmatched
   unknown_text v n e = rw e
 

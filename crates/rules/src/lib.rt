@@ -12,7 +12,6 @@ mod hits;
 mod normal_mode;
 mod spacing;
 
-use patterns::Front;
 use tokens::{Choice, Mode, Offset};
 
 // What is taken at a place, in a mode.
@@ -76,14 +75,13 @@ fn normal(src: &[u8], at: usize) -> Choice
 fn unmatched(src: &[u8], at: usize) -> Choice
     ensures { result ≡ choose tables_1 [] (drop at src.now) }
 {
-    let front = utf8::decode_at(src, at);
-    match front {
-        Front::Broken => Choice {
+    match utf8::decode_at(src, at) {
+        Some(_) => unknown(src, at),
+        None => Choice {
             kind: tokens::INVALID_UTF8,
             len: 1,
             mode: Mode::Normal,
         },
-        Front::Whole(_, _) => unknown(src, at),
     }
 }
 

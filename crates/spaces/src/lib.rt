@@ -8,7 +8,7 @@ ghost use Rattle.tokens.specs.Unicode.{white};
 ghost use Rattle.tokens.specs.Tokens.{blank, blanks};
 ghost use Rattle.tokens.specs.Scan.{plain};
 
-use patterns::Front;
+use patterns::Char;
 use utf8::decode_at;
 
 // The end of the blank run at `at`, or `at` where there is none.
@@ -17,13 +17,13 @@ pub fn blanks(src: &[u8], at: usize) -> usize
 {
     let mut i = at;
     while i < src.len() {
-        let Front::Whole(v, n) = char_at(src, i) else {
+        let Some(c) = char_at(src, i) else {
             return i;
         };
-        if !is_blank(v) {
+        if !is_blank(c.value) {
             return i;
         }
-        i += n;
+        i += c.len;
     }
     i
 }
@@ -34,25 +34,28 @@ pub fn plain_text(src: &[u8], at: usize) -> usize
 {
     let mut i = at;
     while i < src.len() {
-        let Front::Whole(v, n) = char_at(src, i) else {
+        let Some(c) = char_at(src, i) else {
             return i;
         };
-        if is_white(v) {
+        if is_white(c.value) {
             return i;
         }
-        i += n;
+        i += c.len;
     }
     i
 }
 
 // The character at `at`, without decoding where it is ASCII.
-fn char_at(src: &[u8], at: usize) -> Front
+fn char_at(src: &[u8], at: usize) -> Option<Char>
     requires { at < length src.now }
     ensures { result ≡ decode (drop at src.now) }
 {
     let b = src[at];
     if b < 0x80 {
-        return Front::Whole(b as u32, 1);
+        return Some(Char {
+            value: u32::from(b),
+            len: 1,
+        });
     }
     decode_at(src, at)
 }

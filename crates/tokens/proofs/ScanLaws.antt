@@ -1,13 +1,12 @@
 -- What holds of every scan: a token is never empty, starts at the place and ends within the source; none is answered exactly at the
 -- end. Proved once over any modes and rules: a choice takes at least one byte, and no rule more than there are. Assumes nothing.
-use Rattle.std.specs.Prelude.{ℕ, zero, suc, ◌-◌, ◌≤◌, true, ◌↔◌, drop, Some, None, IfSome}
+use Rattle.std.specs.Prelude.{ℕ, zero, suc, ◌-◌, ◌≤◌, true, ◌↔◌, drop, Option, Some, None, IfSome}
 use Rattle.std.proofs.Math.Path.{◌≡◌, refl}
 use mathlib.Core.List.{List, [], ◌∷◌}
 use Rattle.std.proofs.Common.{arith, length-drop}
 use Rattle.std.proofs.Math.ListN.{length}
-use Rattle.patterns.specs.declared.Front.{Front}
-use Rattle.patterns.specs.declared.Front.TheVariants.{Whole, Broken}
-use Rattle.patterns.specs.Utf8.{Class, between, decode}
+use Rattle.patterns.specs.declared.Char.{Char}
+use Rattle.patterns.specs.Utf8.{Class, between, decode, whole}
 use Rattle.patterns.specs.Lists.{each}
 use Rattle.patterns.proofs.Lists.{each_right}
 use Rattle.patterns.proofs.Longest.{longest_le}
@@ -21,10 +20,10 @@ use Rattle.tokens.specs.Scan.{Scanned, best, rules, tried, plain, unmatched, or_
 use Rattle.tokens.proofs.BestLaws.{best_le, best_rule}
 use Rattle.tokens.specs.ScanLaws.{Allowed, Fair, Step}
 
-unmatched_fair : (f : Front) (s : List ℕ) → 1 ≤ length s → Fair (length s) (unmatched f s)
+unmatched_fair : (f : Option Char) (s : List ℕ) → 1 ≤ length s → Fair (length s) (unmatched f s)
 unfolding unmatched
-unmatched_fair Broken s h = record { moves = omega arith; inside = h }
-unmatched_fair (Whole v n) s h = record { moves = omega arith; inside = omega (arith, longest_le plain s) }
+unmatched_fair None s h = record { moves = omega arith; inside = h }
+unmatched_fair (Some c) s h = record { moves = omega arith; inside = omega (arith, longest_le plain s) }
 
 or_else_fair : (m : Mode) (k n l : ℕ) (next : Choice) → n ≤ l → Fair l next → Fair l (or_else m k n next)
 or_else_fair m k zero l next h f = f
@@ -62,10 +61,10 @@ module _ (t : Tables) (src : List ℕ) (at : ℕ) (m : Mode) where
 
 -- The kinds: where every rule's kind is in a class, and those of the two tokens that no rule makes, every token's kind is.
 module _ (c : Class) (t : Tables) (listed : (m : Mode) → each (λ r. c r.kind) (rules t m) ≡ true) (invalid : c INVALID_UTF8 ≡ true) (unknown : c UNKNOWN ≡ true) where
-  unmatched_kind : (f : Front) (s : List ℕ) → c (unmatched f s).kind ≡ true
+  unmatched_kind : (f : Option Char) (s : List ℕ) → c (unmatched f s).kind ≡ true
   unfolding unmatched
-  unmatched_kind Broken s = invalid
-  unmatched_kind (Whole v n) s = unknown
+  unmatched_kind None s = invalid
+  unmatched_kind (Some c) s = unknown
 
   or_else_kind : (m : Mode) (k n : ℕ) (next : Choice) → (1 ≤ n → c k ≡ true) → c next.kind ≡ true → c (or_else m k n next).kind ≡ true
   or_else_kind m k zero next f g = g

@@ -1,8 +1,7 @@
 -- The scan: which token stands at a place of a source, in a mode, and in which mode scanning goes on; and the list of all tokens.
 -- Assumes nothing.
 use Rattle.std.specs.Prelude.{ℕ, zero, suc, ◌+◌, max, cond, not, ◌&&◌, List, [], ◌∷◌, length, drop, leb, Option, Some, None}
-use Rattle.patterns.specs.declared.Front.{Front}
-use Rattle.patterns.specs.declared.Front.TheVariants.{Whole, Broken}
+use Rattle.patterns.specs.declared.Char.{Char}
 use Rattle.patterns.specs.Utf8.{decode}
 use Rattle.patterns.specs.Pattern.{Pat, char, star, walk, longest}
 use Rattle.tokens.specs.declared.Mode.{Mode}
@@ -47,10 +46,10 @@ chosen k n m = record { kind = k; len = n; mode = m }
 abbrev pub plain : Pat
 plain = star (char (λ v. not (white v)))
 
-unfoldable pub unmatched : Front → List ℕ → Choice
+unfoldable pub unmatched : Option Char → List ℕ → Choice
 unfolding white walk
-unmatched Broken s = chosen INVALID_UTF8 1 Normal
-unmatched (Whole v n) s = chosen UNKNOWN (max 1 (longest plain s)) Normal
+unmatched None s = chosen INVALID_UTF8 1 Normal
+unmatched (Some c) s = chosen UNKNOWN (max 1 (longest plain s)) Normal
 
 -- a hit in the mode m, or else what the next mode takes
 abbrev pub or_else : Mode → ℕ → ℕ → Choice → Choice

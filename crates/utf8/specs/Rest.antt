@@ -1,25 +1,25 @@
 -- A character read byte by byte, and the bounds within which its numbers stay. Each law is one line of `decode` or `finish`, read at a
 -- place; that every first byte asks for a rest within the bounds is computed. Assumes nothing.
 use Prim.Native.Nat.{ℕ, zero, suc, ◌+◌, ◌-◌, ◌/◌, ◌≤◌, ◌<◌}
-use Rattle.std.specs.Prelude.{◌≡◌, refl, Bool, true, cond, ◌&&◌, List, [], ◌∷◌, length, get_or, leb, ltb}
+use Rattle.std.specs.Prelude.{◌≡◌, refl, Bool, true, cond, ◌&&◌, List, [], ◌∷◌, length, get_or, leb, ltb, Option, Some, None}
 use Rattle.std.proofs.Common.{sym, ap, ◌∙◌, add-one, arith, drop_of_length-le}
+use Rattle.std.specs.Option.{MatchOption, IsSomeAnd}
 use Rattle.std.proofs.Math.Bool.{false}
 use Rattle.std.proofs.Math.ListN.{drop}
 use Rattle.std.proofs.Math.Seq.{drop-cons}
 use borrow.Author.Tests.{le-leb, leb-true, ltb-true}
-use Rattle.patterns.specs.declared.Front.{Front}
-use Rattle.patterns.specs.declared.Front.TheVariants.{Whole, Broken}
+use Rattle.patterns.specs.declared.Char.{Char}
 use Rattle.patterns.specs.declared.Lead.{Lead}
 use Rattle.patterns.specs.declared.Lead.TheVariants.{Alone, More, Bad}
-use Rattle.patterns.specs.Utf8.{between, lead, join, longer, finish, after_lead, decode}
+use Rattle.patterns.specs.Utf8.{between, lead, join, longer, finish, after_lead, decode, whole}
 use Rattle.patterns.proofs.Bools.{and_first, and_second, by_test}
 use Rattle.patterns.specs.Apart.{each_byte}
 use Rattle.patterns.proofs.Apart.{at_byte}
 
 -- how many bytes a character has
-abbrev pub size : Front → ℕ
-size (Whole v n) = n
-size Broken = 0
+abbrev pub size : Option Char → ℕ
+size (Some c) = c.len
+size None = 0
 
 -- bits below this leave room for those of k + 1 bytes more in 32 bits
 abbrev pub room : ℕ → ℕ
@@ -66,26 +66,32 @@ lead_bounded {b} {low} {high} {k} {bits} h e =
     }
 
 -- one byte more in front
-pub one_longer : {f : Front} {v n : ℕ} → f ≡ Whole v n → Whole v (n + 1) ≡ longer f
-one_longer e = rw (e, add-one)
+pub one_longer : (c : Char) → whole c.value (c.len + 1) ≡ longer (Some c)
+one_longer c = rw add-one
+
+-- what `map` makes of a character, or of none
+pub mapped : (o r : Option Char) → MatchOption o (r ≡ None) (λ x. IsSomeAnd r (λ y. Some y ≡ longer (Some x))) → r ≡ longer o
+mapped None r h = h
+mapped (Some x) None h = absurd h
+mapped (Some x) (Some y) h = h
 
 finish_size : (low high k bits : ℕ) (s : List ℕ) → size (finish low high k bits s) ≤ suc k
 unfolding finish
 finish_size low high k bits [] = omega arith
 finish_size low high zero bits (b ∷ bs) = go (between low high b)
   where
-    go : (t : Bool) → size (cond t (Whole (join bits b) 1) Broken) ≤ 1
+    go : (t : Bool) → size (cond t (whole (join bits b) 1) None) ≤ 1
     go true = omega arith
     go false = omega arith
 finish_size low high (suc k) bits (b ∷ bs) =
     go (between low high b) (finish 0x80 0xBF k (join bits b) bs) (finish_size 0x80 0xBF k (join bits b) bs)
   where
-    go : (t : Bool) (f : Front) → size f ≤ suc k → size (cond t (longer f) Broken) ≤ suc (suc k)
-    go true (Whole v n) h = omega arith
-    go true Broken h = omega arith
+    go : (t : Bool) (f : Option Char) → size f ≤ suc k → size (cond t (longer f) None) ≤ suc (suc k)
+    go true (Some c) h = omega arith
+    go true None h = omega arith
     go false f h = omega arith
 
-pub read_size : (low high k bits : ℕ) (s : List ℕ) {f : Front} → f ≡ finish low high k bits s → size f ≤ suc k
+pub read_size : (low high k bits : ℕ) (s : List ℕ) {f : Option Char} → f ≡ finish low high k bits s → size f ≤ suc k
 read_size low high k bits s e = rw e (finish_size low high k bits s)
 
 outside : (low high b : ℕ) → (low ≤ b → b ≤ high → ⊥) → between low high b ≡ false
@@ -93,27 +99,27 @@ outside low high b f = by_test (between low high b) (λ t. absurd (f (search (le
 
 -- The rest of a character, at the place i: the source ends; a byte that cannot stand there; the last byte; another.
 module _ (low high k bits : ℕ) (s : List ℕ) (i : ℕ) where
-  pub rest_end : length s ≤ i → Broken ≡ finish low high k bits (drop i s)
+  pub rest_end : length s ≤ i → None ≡ finish low high k bits (drop i s)
   unfolding finish
   rest_end h = rw (drop_of_length-le s h)
 
   module _ (h : i < length s) where
-    pub rest_out : (low ≤ get_or s i 0 → get_or s i 0 ≤ high → ⊥) → Broken ≡ finish low high k bits (drop i s)
+    pub rest_out : (low ≤ get_or s i 0 → get_or s i 0 ≤ high → ⊥) → None ≡ finish low high k bits (drop i s)
     unfolding finish
     rest_out f = rw (drop-cons s i 0) (go k (outside low high (get_or s i 0) f))
       where
-        go : (k : ℕ) → between low high (get_or s i 0) ≡ false → Broken ≡ finish low high k bits (get_or s i 0 ∷ drop (suc i) s)
+        go : (k : ℕ) → between low high (get_or s i 0) ≡ false → None ≡ finish low high k bits (get_or s i 0 ∷ drop (suc i) s)
         go zero e = rw e
         go (suc k) e = rw e
 
-    module _ (l : low ≤ get_or s i 0) (g : get_or s i 0 ≤ high) where
-      pub rest_last : k ≡ 0 → Whole (join bits (get_or s i 0)) 1 ≡ finish low high k bits (drop i s)
+    module _ (l : low ≤ get_or s i 0) (g : get_or s i 0 ≤ high) {w : ℕ} (j : w ≡ join bits (get_or s i 0)) where
+      pub rest_last : k ≡ 0 → whole w 1 ≡ finish low high k bits (drop i s)
       unfolding finish
-      rest_last z = rw (z, drop-cons s i 0, le-leb low (get_or s i 0) l, le-leb (get_or s i 0) high g)
+      rest_last z = rw (j, z, drop-cons s i 0, le-leb low (get_or s i 0) l, le-leb (get_or s i 0) high g)
 
-      pub rest_on : (k ≡ 0 → ⊥) → longer (finish 0x80 0xBF (k - 1) (join bits (get_or s i 0)) (drop (i + 1) s)) ≡ finish low high k bits (drop i s)
+      pub rest_on : (k ≡ 0 → ⊥) → longer (finish 0x80 0xBF (k - 1) w (drop (i + 1) s)) ≡ finish low high k bits (drop i s)
       unfolding finish
-      rest_on z = rw (add-one, drop-cons s i 0) (go (k - 1) k (omega arith))
+      rest_on z = rw (j, add-one, drop-cons s i 0) (go (k - 1) k (omega arith))
         where
           go : (n k : ℕ) → k ≡ suc n
               → longer (finish 0x80 0xBF n (join bits (get_or s i 0)) (drop (suc i) s)) ≡ finish low high k bits (get_or s i 0 ∷ drop (suc i) s)
@@ -121,10 +127,10 @@ module _ (low high k bits : ℕ) (s : List ℕ) (i : ℕ) where
 
 -- A character, at the place i.
 module _ (s : List ℕ) (i : ℕ) where
-  pub decode_end : length s ≤ i → Broken ≡ decode (drop i s)
+  pub decode_end : length s ≤ i → None ≡ decode (drop i s)
   unfolding decode
   decode_end h = rw (drop_of_length-le s h)
 
-  pub decode_lead : {l : Lead} → i < length s → lead (get_or s i 0) ≡ l → after_lead (get_or s i 0) l (drop (i + 1) s) ≡ decode (drop i s)
+  pub decode_lead : {b : ℕ} {l : Lead} → i < length s → b ≡ get_or s i 0 → lead b ≡ l → after_lead b l (drop (i + 1) s) ≡ decode (drop i s)
   unfolding decode
-  decode_lead h e = rw (add-one, drop-cons s i 0, e)
+  decode_lead h p e = rw (p, add-one, drop-cons s i 0, rw p at e)

@@ -1,11 +1,10 @@
 -- Runs of characters of one class, as a scanning loop meets them: a character of the class, one outside it, a broken one, the end.
 -- A run goes on behind a character of the class as if it began there, since it may be empty. Assumes nothing.
-use Rattle.std.specs.Prelude.{ℕ, ◌+◌, ◌≤◌, ◌<◌, ◌≡◌, true, false, List, [], ◌∷◌, length, get_or, drop, ltb}
+use Rattle.std.specs.Prelude.{ℕ, ◌+◌, ◌≤◌, ◌<◌, ◌≡◌, true, false, List, [], ◌∷◌, length, get_or, drop, ltb, None}
 use Rattle.std.proofs.Math.Path.{refl}
 use Rattle.std.proofs.Common.{sym, ap, ◌∙◌, arith, length-drop, drop-cons}
 use borrow.Author.Tests.{le-leb, lt-ltb, ltb-true, ltb-false}
-use Rattle.patterns.specs.declared.Front.TheVariants.{Whole, Broken}
-use Rattle.patterns.specs.Utf8.{Class, decode, encode}
+use Rattle.patterns.specs.Utf8.{Class, decode, encode, whole}
 use Rattle.patterns.proofs.Bools.{by_test}
 use Rattle.patterns.specs.Utf8Laws.{Encoded}
 use Rattle.patterns.proofs.Utf8Laws.{decoded, decoded_size}
@@ -29,11 +28,11 @@ module _ (f : Class) (s : List ℕ) (i : ℕ) where
   pub run_over : length s ≤ i → i ≡ run_end f s i
   run_over h = over (start (run f) s i) h
 
-  pub run_broken : decode (drop i s) ≡ Broken → i ≡ run_end f s i
+  pub run_broken : decode (drop i s) ≡ None → i ≡ run_end f s i
   unfolding deriv
   run_broken d = char_broken f (run f) (start (run f) s i) refl d
 
-  module _ {v n : ℕ} (d : decode (drop i s) ≡ Whole v n) where
+  module _ {v n : ℕ} (d : decode (drop i s) ≡ whole v n) where
     pub run_out : f v ≡ false → i ≡ run_end f s i
     unfolding deriv
     run_out e = char_out f (run f) (start (run f) s i) refl d e
@@ -44,16 +43,16 @@ module _ (f : Class) (s : List ℕ) (i : ℕ) where
 
 module _ (s : List ℕ) (i : ℕ) (h : i < length s) where
   -- a byte below 0x80 is a character
-  pub ascii : get_or s i 0 < 0x80 → decode (drop i s) ≡ Whole (get_or s i 0) 1
+  pub ascii : get_or s i 0 < 0x80 → decode (drop i s) ≡ whole (get_or s i 0) 1
   unfolding decode
   ascii l = rw (drop-cons s i 0, le-leb 0 (get_or s i 0) (omega arith), le-leb (get_or s i 0) 0x7F (omega arith))
 
   -- a character takes bytes of the source
-  pub char_within : {v n : ℕ} → decode (drop i s) ≡ Whole v n → (1 ≤ n) × (i + n ≤ length s)
+  pub char_within : {v n : ℕ} → decode (drop i s) ≡ whole v n → (1 ≤ n) × (i + n ≤ length s)
   char_within {v} {n} d = omega (arith, decoded_size (drop i s) v n d, length-drop i s)
 
   -- any other byte begins a character beyond ASCII
-  pub beyond : {v n : ℕ} → decode (drop i s) ≡ Whole v n → 0x80 ≤ get_or s i 0 → 0x80 ≤ v
+  pub beyond : {v n : ℕ} → decode (drop i s) ≡ whole v n → 0x80 ≤ get_or s i 0 → 0x80 ≤ v
   beyond {v} {n} d l = by_test (ltb v 0x80) (λ t. absurd (one (ltb-true v 0x80 t) (decoded (drop i s) v n d))) (λ t. ltb-false v 0x80 t)
     where
       one : v < 0x80 → Encoded (drop i s) v n → ⊥

@@ -1,24 +1,26 @@
 // UTF-8: which character stands at a place of a source.
 #![tactic(auto)]
 
-ghost use Rattle.std.specs.Prelude.{◌<◌, ◌≡◌, drop};
+ghost use Rattle.std.specs.Prelude.{◌<◌, ◌≡◌, drop, Some};
 ghost use Rattle.patterns.specs.Utf8.{lead, longer, finish, decode};
-ghost use Rattle.utf8.specs.Rest.{size, Bounded};
+ghost use Rattle.utf8.specs.Rest.{Bounded};
 
-use patterns::{Front, Lead};
+use patterns::{Char, Lead};
 
 // What stands at a place of a source: one well-formed character, or none.
-pub fn decode_at(src: &[u8], at: usize) -> Front
+pub fn decode_at(src: &[u8], at: usize) -> Option<Char>
     ensures { result ≡ decode (drop at src.now) }
 {
-    if src.len() <= at {
-        return Front::Broken;
-    }
-    let b = src[at];
+    let b = *src.get(at)?;
     match lead_of(b) {
-        Lead::Alone => Front::Whole(b as u32, 1),
-        Lead::More { low, high, k, bits } => longer(finish_at(src, at + 1, low, high, k, bits)),
-        Lead::Bad => Front::Broken,
+        Lead::Alone => Some(Char {
+            value: u32::from(b),
+            len: 1,
+        }),
+        Lead::More { low, high, k, bits } => {
+            finish_at(src, at + 1, low, high, k, bits).map(longer)
+        }
+        Lead::Bad => None,
     }
 }
 
@@ -48,36 +50,36 @@ fn more(low: u8, high: u8, k: u32, bits: u8) -> Lead
         low,
         high,
         k,
-        bits: bits as u32,
+        bits: u32::from(bits),
     }
 }
 
 // The rest of a character, of whose value `bits` is known: a byte in low..=high, and k more.
-fn finish_at(src: &[u8], at: usize, low: u8, high: u8, k: u32, bits: u32) -> Front
+fn finish_at(src: &[u8], at: usize, low: u8, high: u8, k: u32, bits: u32) -> Option<Char>
     requires { Bounded low high k bits }
     ensures { result ≡ finish low high k bits (drop at src.now) }
 {
-    if src.len() <= at {
-        return Front::Broken;
-    }
-    let b = src[at];
+    let b = *src.get(at)?;
     if b < low || high < b {
-        return Front::Broken;
+        return None;
     }
-    let joined = bits * 64 + (b - 0x80) as u32;
+    let joined = bits * 64 + u32::from(b - 0x80);
     if k == 0 {
-        return Front::Whole(joined, 1);
+        return Some(Char {
+            value: joined,
+            len: 1,
+        });
     }
-    longer(finish_at(src, at + 1, 0x80, 0xBF, k - 1, joined))
+    finish_at(src, at + 1, 0x80, 0xBF, k - 1, joined).map(longer)
 }
 
 // The same character with one byte more in front.
-fn longer(f: Front) -> Front
-    requires { size f < 4 }
-    ensures { result ≡ longer f }
+fn longer(c: Char) -> Char
+    requires { c.len < 4 }
+    ensures { Some result ≡ longer (Some c) }
 {
-    match f {
-        Front::Whole(v, n) => Front::Whole(v, n + 1),
-        Front::Broken => Front::Broken,
+    Char {
+        len: c.len + 1,
+        ..c
     }
 }

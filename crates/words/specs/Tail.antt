@@ -3,8 +3,7 @@
 use Rattle.std.specs.Prelude.{ℕ, ◌+◌, ◌≤◌, ◌<◌, ◌≡◌, refl, true, false, ◌||◌, List, length, get_or, drop}
 use Rattle.std.proofs.Common.{◌∙◌, arith, le-leb, ne_eqb}
 use Rattle.std.proofs.lemmas.Bool.{lt-leb}
-use Rattle.patterns.specs.declared.Front.TheVariants.{Whole}
-use Rattle.patterns.specs.Utf8.{Class, decode}
+use Rattle.patterns.specs.Utf8.{Class, decode, whole}
 use Rattle.utf8.specs.Ranges.{same_at}
 use Rattle.utf8.specs.Runs.{run_end, run_in, run_out, ascii, beyond}
 use Rattle.tokens.specs.Unicode.{in_runs, digits_16}
@@ -34,7 +33,7 @@ module _ (s : List ℕ) (i : ℕ) (h : i < length s) where
     pub byte_out : word_byte (get_or s i 0) ≡ false → i ≡ tail_end s i
     byte_out e = run_out (word_part digits_16) s i (ascii s i h l) (byte_part (get_or s i 0) l ∙ e)
 
-  module _ (l : 0x80 ≤ get_or s i 0) {v n : ℕ} (d : decode (drop i s) ≡ Whole v n) where
+  module _ (l : 0x80 ≤ get_or s i 0) {v n : ℕ} (d : decode (drop i s) ≡ whole v n) where
     pub digit_in : in_runs digits_16 v ≡ true → tail_end s (i + n) ≡ tail_end s i
     digit_in e = run_in (word_part digits_16) s i d (beyond_part v (beyond s i h d l) ∙ e)
 

@@ -10,7 +10,6 @@ ghost use Rattle.tokens.specs.Tokens.{tail};
 ghost use Rattle.words.specs.Tail.{word_byte};
 
 pub use keywords::keyword;
-use patterns::Front;
 use utf8::decode_at;
 
 // The end of the word tail at `at`: any run of ASCII letters, `_` and decimal digits.
@@ -27,13 +26,13 @@ pub fn word_tail(src: &[u8], at: usize) -> usize
             i += 1;
             continue;
         }
-        let Front::Whole(v, n) = decode_at(src, i) else {
+        let Some(c) = decode_at(src, i) else {
             return i;
         };
-        if !is_digit(v) {
+        if !is_digit(c.value) {
             return i;
         }
-        i += n;
+        i += c.len;
     }
     i
 }

@@ -31,21 +31,21 @@ pub loop-i-init : goal.loop-i-init
 unfolding inside
 loop-i-init c = text_yes (text_then _ (ascii "/*")) (start _ _ _) (sym c.has.ensures ∙ c.if-not-has.false)
 
-pub overflow_add-i-in-Whole : goal.overflow_add-i-in-Whole
-overflow_add-i-in-Whole c = omega (arith, char_within _ _ c.loop-i-test.true (sym c.decode_at.ensures ∙ c.in-Whole.is))
+pub overflow_add-i-in-Some : goal.overflow_add-i-in-Some
+overflow_add-i-in-Some c = omega (arith, char_within _ _ c.loop-i-test.true (sym c.decode_at.ensures ∙ c.in-Some.is))
 
-pub returns-in-Broken : goal.returns-in-Broken
-returns-in-Broken c =
+pub returns-in-None : goal.returns-in-None
+returns-in-None c =
     comment_broken _ _ c.loop-i.invariant (search rules) c.if-chars.true (le-leb 0x80 _ c.if-b-ge128.true)
-    (sym c.decode_at.ensures ∙ c.in-Broken.is)
+    (sym c.decode_at.ensures ∙ c.in-None.is)
 
 pub loop-i-smaller-then-b-ge128 : goal.loop-i-smaller-then-b-ge128
-loop-i-smaller-then-b-ge128 c = omega (arith, char_within _ _ c.loop-i-test.true (sym c.decode_at.ensures ∙ c.in-Whole.is))
+loop-i-smaller-then-b-ge128 c = omega (arith, char_within _ _ c.loop-i-test.true (sym c.decode_at.ensures ∙ c.in-Some.is))
 
 pub loop-i-preserved-then-b-ge128 : goal.loop-i-preserved-then-b-ge128
 loop-i-preserved-then-b-ge128 c =
     comment_char _ _ c.loop-i.invariant (search rules) c.if-chars.true (le-leb 0x80 _ c.if-b-ge128.true)
-    (sym c.decode_at.ensures ∙ c.in-Whole.is)
+    (sym c.decode_at.ensures ∙ c.in-Some.is)
 
 pub returns-then-b-eq47 : goal.returns-then-b-eq47
 returns-then-b-eq47 c =

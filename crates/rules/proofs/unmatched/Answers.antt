@@ -5,12 +5,12 @@ use Rattle.tokens.specs.Tokens.{tables_1}
 use Rattle.rules.proofs.Choosing.{broken_byte, unknown_text}
 use Rattle.rules.proofs.unmatched.Goals as goal
 
-pub returns-in-Broken : goal.returns-in-Broken
-returns-in-Broken c =
+pub returns-in-None : goal.returns-in-None
+returns-in-None c =
     let a = c.args in
-    broken_byte tables_1 (drop a.at a.src.now) (sym c.decode_at-front.ensures ∙ c.in-Broken.is)
+    broken_byte tables_1 (drop a.at a.src.now) (sym c.decode_at.ensures ∙ c.in-None.is)
 
-pub returns-in-Whole : goal.returns-in-Whole
-returns-in-Whole c =
+pub returns-in-Some : goal.returns-in-Some
+returns-in-Some c =
     let a = c.args in
-    c.unknown.ensures ∙ unknown_text tables_1 (drop a.at a.src.now) _ _ (sym c.decode_at-front.ensures ∙ c.in-Whole.is)
+    c.unknown.ensures ∙ unknown_text tables_1 (drop a.at a.src.now) _ _ (sym c.decode_at.ensures ∙ c.in-Some.is)

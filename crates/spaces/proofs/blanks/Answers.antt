@@ -13,16 +13,16 @@ pub returns-in_default : goal.returns-in_default
 returns-in_default c = run_broken _ _ _ (sym c.char_at.ensures ∙ c.in_default.is) ∙ c.loop-i.invariant
 
 pub returns-then-not-is_blank : goal.returns-then-not-is_blank
-returns-then-not-is_blank c = run_out _ _ _ ((sym c.char_at.ensures ∙ c.in-Whole.is)) (sym c.is_blank.ensures ∙ c.if-not-is_blank.true) ∙ c.loop-i.invariant
+returns-then-not-is_blank c = run_out _ _ _ ((sym c.char_at.ensures ∙ c.in-Some.is)) (sym c.is_blank.ensures ∙ c.if-not-is_blank.true) ∙ c.loop-i.invariant
 
 pub overflow_add-i : goal.overflow_add-i
-overflow_add-i c = omega (arith, char_within _ _ c.loop-i-test.true ((sym c.char_at.ensures ∙ c.in-Whole.is)))
+overflow_add-i c = omega (arith, char_within _ _ c.loop-i-test.true ((sym c.char_at.ensures ∙ c.in-Some.is)))
 
 pub loop-i-smaller : goal.loop-i-smaller
-loop-i-smaller c = omega (arith, char_within _ _ c.loop-i-test.true ((sym c.char_at.ensures ∙ c.in-Whole.is)))
+loop-i-smaller c = omega (arith, char_within _ _ c.loop-i-test.true ((sym c.char_at.ensures ∙ c.in-Some.is)))
 
 pub loop-i-preserved : goal.loop-i-preserved
-loop-i-preserved c = run_in _ _ _ ((sym c.char_at.ensures ∙ c.in-Whole.is)) (sym c.is_blank.ensures ∙ c.if-not-is_blank.false) ∙ c.loop-i.invariant
+loop-i-preserved c = run_in _ _ _ ((sym c.char_at.ensures ∙ c.in-Some.is)) (sym c.is_blank.ensures ∙ c.if-not-is_blank.false) ∙ c.loop-i.invariant
 
 pub returns : goal.returns
 returns c = run_over _ _ _ c.loop-i-test.false ∙ c.loop-i.invariant

@@ -12,16 +12,16 @@ pub returns-in_default : goal.returns-in_default
 returns-in_default c = run_broken _ _ _ (sym c.char_at.ensures ∙ c.in_default.is) ∙ c.loop-i.invariant
 
 pub returns-then-is_white : goal.returns-then-is_white
-returns-then-is_white c = run_out _ _ _ ((sym c.char_at.ensures ∙ c.in-Whole.is)) (ap not (sym c.is_white.ensures ∙ c.if-is_white.true)) ∙ c.loop-i.invariant
+returns-then-is_white c = run_out _ _ _ ((sym c.char_at.ensures ∙ c.in-Some.is)) (ap not (sym c.is_white.ensures ∙ c.if-is_white.true)) ∙ c.loop-i.invariant
 
 pub overflow_add-i : goal.overflow_add-i
-overflow_add-i c = omega (arith, char_within _ _ c.loop-i-test.true ((sym c.char_at.ensures ∙ c.in-Whole.is)))
+overflow_add-i c = omega (arith, char_within _ _ c.loop-i-test.true ((sym c.char_at.ensures ∙ c.in-Some.is)))
 
 pub loop-i-smaller : goal.loop-i-smaller
-loop-i-smaller c = omega (arith, char_within _ _ c.loop-i-test.true ((sym c.char_at.ensures ∙ c.in-Whole.is)))
+loop-i-smaller c = omega (arith, char_within _ _ c.loop-i-test.true ((sym c.char_at.ensures ∙ c.in-Some.is)))
 
 pub loop-i-preserved : goal.loop-i-preserved
-loop-i-preserved c = run_in _ _ _ ((sym c.char_at.ensures ∙ c.in-Whole.is)) (ap not (sym c.is_white.ensures ∙ c.if-is_white.false)) ∙ c.loop-i.invariant
+loop-i-preserved c = run_in _ _ _ ((sym c.char_at.ensures ∙ c.in-Some.is)) (ap not (sym c.is_white.ensures ∙ c.if-is_white.false)) ∙ c.loop-i.invariant
 
 pub returns : goal.returns
 returns c = run_over _ _ _ c.loop-i-test.false ∙ c.loop-i.invariant

@@ -25,16 +25,16 @@ pub returns-in_default : goal.returns-in_default
 returns-in_default c = run_broken _ _ _ (sym c.decode_at.ensures ∙ c.in_default.is) ∙ c.loop-i.invariant
 
 pub returns-then-not-is_digit : goal.returns-then-not-is_digit
-returns-then-not-is_digit c = digit_out _ _ (omega arith) c.if-b-lt128.false ((sym c.decode_at.ensures ∙ c.in-Whole.is)) (sym c.is_digit.ensures ∙ c.if-not-is_digit.true) ∙ c.loop-i.invariant
+returns-then-not-is_digit c = digit_out _ _ (omega arith) c.if-b-lt128.false ((sym c.decode_at.ensures ∙ c.in-Some.is)) (sym c.is_digit.ensures ∙ c.if-not-is_digit.true) ∙ c.loop-i.invariant
 
 pub overflow_add-i-in-loop-i : goal.overflow_add-i-in-loop-i
-overflow_add-i-in-loop-i c = omega (arith, char_within _ _ c.loop-i-test.true ((sym c.decode_at.ensures ∙ c.in-Whole.is)))
+overflow_add-i-in-loop-i c = omega (arith, char_within _ _ c.loop-i-test.true ((sym c.decode_at.ensures ∙ c.in-Some.is)))
 
 pub loop-i-smaller : goal.loop-i-smaller
-loop-i-smaller c = omega (arith, char_within _ _ c.loop-i-test.true ((sym c.decode_at.ensures ∙ c.in-Whole.is)))
+loop-i-smaller c = omega (arith, char_within _ _ c.loop-i-test.true ((sym c.decode_at.ensures ∙ c.in-Some.is)))
 
 pub loop-i-preserved : goal.loop-i-preserved
-loop-i-preserved c = digit_in _ _ (omega arith) c.if-b-lt128.false ((sym c.decode_at.ensures ∙ c.in-Whole.is)) (sym c.is_digit.ensures ∙ c.if-not-is_digit.false) ∙ c.loop-i.invariant
+loop-i-preserved c = digit_in _ _ (omega arith) c.if-b-lt128.false ((sym c.decode_at.ensures ∙ c.in-Some.is)) (sym c.is_digit.ensures ∙ c.if-not-is_digit.false) ∙ c.loop-i.invariant
 
 pub returns : goal.returns
 returns c = run_over _ _ _ c.loop-i-test.false ∙ c.loop-i.invariant
