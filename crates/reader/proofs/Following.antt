@@ -1,9 +1,10 @@
 -- One scan after the other. At the end no token is ahead of a reader; else the token that a scan finds, and those that are ahead of
 -- the reader behind it. From the scanner's promise and the laws of the definition's scan. Assumes nothing.
-use Prim.Native.Nat.{ℕ, zero, suc, min, ◌+◌, ◌≤◌, zero-le}
+use Prim.Native.Nat.{ℕ, zero, suc, min, ◌+◌, ◌≤◌, ◌<◌, zero-le}
 use Rattle.std.specs.Prelude.{◌≡◌, List, [], ◌∷◌, length, Some, None}
 use Rattle.std.proofs.Math.Path.{refl}
 use Rattle.std.proofs.Common.{ap, arith, le-leb}
+use Rattle.tokens.specs.declared.Mode.{Mode}
 use Rattle.tokens.specs.declared.Token.{Token}
 use Rattle.tokens.specs.Tokens.{tables_1}
 use Rattle.tokens.specs.Scan.{Scanned, scan, onto, list_from}
@@ -57,12 +58,19 @@ module _ (src : List ℕ) (r : Reader) where
   unfolding ahead
   ahead_all n k h g = rw (enough tables_1 src n k r.place.0 r.mode (omega arith) (omega arith))
 
+  -- with a token fewer are left
+  pub fewer : {x : Token} {next : Reader} → Onward src r x next → length (rest src next) < length (rest src r)
+  fewer {x} {next} o = omega (arith, ap length (rest_more x next o))
+
   module _ (h : Sound src r) where
-    moved_says : (y : Scanned) → scan tables_1 src r.place.0 r.mode ≡ y → Says src r (moved y)
-    moved_says None e = e
-    moved_says (Some (x, m)) e =
+    pub onward_from : {x : Token} {m : Mode} → scan tables_1 src r.place.0 r.mode ≡ Some (x, m) → Onward src r x (record { place = x.end; mode = m })
+    onward_from {x} {m} e =
         let s : Step src r.place.0 x = scan_found tables_1 src r.place.0 r.mode x m e in
         record { found = e; placed = refl; further = s.longer; sound = record { limit = h.limit; inside = s.within } }
+
+    moved_says : (y : Scanned) → scan tables_1 src r.place.0 r.mode ≡ y → Says src r (moved y)
+    moved_says None e = e
+    moved_says (Some (x, m)) e = onward_from e
 
     -- no more tokens are left than bytes
     pub rest_most : r.place.0 + length (rest src r) ≤ length src

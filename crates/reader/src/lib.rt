@@ -6,9 +6,11 @@ ghost use Rattle.std.specs.Prelude.{◌≡◌};
 ghost use Rattle.tokens.specs.declared.Mode.TheVariants.{HexPattern, HexJump};
 ghost use Rattle.reader.specs.Reading.{open_of, opened_told, entered};
 
+mod remaining;
 mod scanning;
 
 use refusals::Refusal;
+pub use remaining::Tokens;
 use tokens::{Mode, Offset};
 
 // The most bytes that a source may have.

@@ -1,6 +1,7 @@
 // The scanner: one token for each call, in three modes.
-ghost use Rattle.std.specs.Prelude.{◌≡◌};
-ghost use Rattle.reader.specs.Reading.{scan_of, scan_told};
+ghost use Rattle.std.specs.Prelude.{◌≡◌, MatchOption};
+ghost use Rattle.reader.specs.Reading.{sound, scan_of, scan_told};
+ghost use Rattle.reader.specs.Following.{Sound, Onward, Ends};
 
 use crate::{Reader, SOURCE_LIMIT};
 use refusals::Refusal;
@@ -11,28 +12,40 @@ impl Reader {
     pub fn scan(self, src: &[u8]) -> Result<Option<(Token, Reader)>, Refusal>
         ensures { scan_told result ≡ scan_of src.now self }
     {
-        if SOURCE_LIMIT < src.len() {
-            return Err(Refusal::NotAsOpened);
+        if self.can_scan(src) {
+            Ok(self.found(src))
+        } else {
+            Err(Refusal::NotAsOpened)
         }
-        let place = self.place;
-        let at = place.0 as usize;
-        if src.len() < at {
-            return Err(Refusal::NotAsOpened);
+    }
+
+    // Whether the source is within the limit, and the reader's place within the source.
+    pub(crate) fn can_scan(self, src: &[u8]) -> bool
+        ensures { result ≡ sound src.now self }
+    {
+        src.len() <= SOURCE_LIMIT && self.place.0 as usize <= src.len()
+    }
+
+    // What a scan finds.
+    pub(crate) fn found(self, src: &[u8]) -> Option<(Token, Reader)>
+        requires { Sound src.now self }
+        ensures { MatchOption result (Ends src.now self) (λ p. Onward src.now self p.0 p.1) }
+    {
+        let at = self.place.0 as usize;
+        if at == src.len() {
+            return None;
         }
-        if src.len() == at {
-            return Ok(None);
-        }
-        let choice = rules::taken(self.mode, src, place);
+        let choice = rules::taken(self.mode, src, self.place);
         let end = Offset((at + choice.len) as u32);
         let token = Token {
             kind: choice.kind,
-            start: place,
+            start: self.place,
             end,
         };
         let moved = Reader {
             place: end,
             mode: choice.mode,
         };
-        Ok(Some((token, moved)))
+        Some((token, moved))
     }
 }

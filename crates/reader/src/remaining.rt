@@ -1,0 +1,54 @@
+// The tokens from a reader on, one after the other.
+ghost use Rattle.std.specs.Prelude.{◌≡◌, ⊤, true, false, MatchOption, MatchResult};
+ghost use Rattle.std.specs.Iterator.{YieldsFirst, item_count, MakesProgress};
+ghost use Rattle.refusals.specs.declared.Refusal.TheVariants.{NotAsOpened};
+ghost use Rattle.reader.specs.Reading.{sound};
+ghost use Rattle.reader.specs.Following.{Sound, Onward, Ends, rest};
+
+use crate::Reader;
+use refusals::Refusal;
+use tokens::Token;
+
+// The tokens that are left of a source from a reader on. The reader is always one that can scan the source.
+#[derive(Clone, Copy)]
+pub struct Tokens<'a> {
+    pub src: &'a [u8],
+    pub reader: Reader,
+    ghost sound: { Sound src.now reader },
+}
+
+impl Reader {
+    // The tokens from the reader on; refused where it cannot scan the source.
+    pub fn tokens<'a>(self, src: &'a [u8]) -> Result<Tokens<'a>, Refusal>
+        ensures { MatchResult result
+            (λ t. (sound src.entry.now self ≡ true) × (t.src ≡ src.entry) × (t.reader ≡ self))
+            (λ e. (sound src.entry.now self ≡ false) × (e ≡ NotAsOpened)) }
+    {
+        if self.can_scan(src) {
+            Ok(Tokens { src, reader: self })
+        } else {
+            Err(Refusal::NotAsOpened)
+        }
+    }
+}
+
+impl<'a> Iterator for Tokens<'a> {
+    type Item = Token;
+
+    ghost next_gives = { YieldsFirst (λ s. rest s.src.now s.reader) };
+
+    ghost remaining = { item_count (λ s. rest s.src.now s.reader) };
+
+    // The next token; the reader is then behind it.
+    fn next(&mut self) -> Option<Token>
+        ensures steps { YieldsFirst (λ s. rest s.src.now s.reader) self.old result self.new }
+        ensures goes { MakesProgress (λ _. ⊤) (item_count (λ s. rest s.src.now s.reader)) self.old result self.new }
+        ensures moves { (self.new.src ≡ self.old.src) × MatchOption result
+            (Ends self.old.src.now self.old.reader × (self.new.reader ≡ self.old.reader))
+            (λ x. Onward self.old.src.now self.old.reader x self.new.reader) }
+    {
+        let (token, moved) = self.reader.found(self.src)?;
+        self.reader = moved;
+        Some(token)
+    }
+}
