@@ -1,15 +1,14 @@
 -- Fetching: the tokens ahead of a reader go into the slots of their indexes; where they are too many, none does.
 -- Assumes nothing.
-use Rattle.std.specs.Prelude.{ℕ, ◌+◌, cond, ◌&&◌, List, length, leb}
+use Rattle.std.specs.Prelude.{ℕ, ◌+◌, cond, ◌&&◌, List, length, leb, Result, Ok, Err}
 use Rattle.tokens.specs.declared.TokenIndex.{TokenIndex}
+use Rattle.refusals.specs.declared.Refusal.{Refusal}
 use Rattle.refusals.specs.Refusals.{number_of}
 use Rattle.refusals.specs.Calls.{Reply, reply}
 use Rattle.reader.specs.declared.Reader.{Reader}
 use Rattle.reader.specs.Reading.{sound, Ahead, ahead}
 use Rattle.token_room.specs.Room.{nth, write_all}
 use Rattle.fetching.specs.declared.Stored.{Stored}
-use Rattle.fetching.specs.declared.Fetched.{Fetched}
-use Rattle.fetching.specs.declared.Fetched.TheVariants as of_fetched
 
 -- What fetching answers: the reader behind the tokens, and the index that comes next; or a refusal, by its number.
 pub data Answer : Type 0 where
@@ -30,9 +29,9 @@ fetched src r room first need spare =
     (reply (refused 24) room)
 
 -- The code's answer in these values, with the room.
-abbrev pub fetched_told : Fetched → Answer
-fetched_told (of_fetched.Upto r i) = upto r i
-fetched_told (of_fetched.Refused n) = refused (number_of n)
+abbrev pub fetched_told : Result Stored Refusal → Answer
+fetched_told (Ok s) = upto s.reader s.next
+fetched_told (Err n) = refused (number_of n)
 
-abbrev pub outcome : Fetched → List ℕ → Reply Answer (List ℕ)
+abbrev pub outcome : Result Stored Refusal → List ℕ → Reply Answer (List ℕ)
 outcome g room = reply (fetched_told g) room

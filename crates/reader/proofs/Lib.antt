@@ -2,3 +2,4 @@
 pub mod Answers
 pub mod ReaderLaws
 pub mod Following
+pub mod Iterating

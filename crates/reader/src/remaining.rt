@@ -1,6 +1,6 @@
 // The tokens from a reader on, one after the other.
-ghost use Rattle.std.specs.Prelude.{◌≡◌, ⊤, true, false, MatchOption, MatchResult};
-ghost use Rattle.std.specs.Iterator.{YieldsFirst, item_count, MakesProgress};
+ghost use Rattle.std.specs.Prelude.{◌≡◌, true, false, MatchOption, MatchResult};
+ghost use Rattle.std.specs.Iterator.{YieldsFirst, item_count};
 ghost use Rattle.refusals.specs.declared.Refusal.TheVariants.{NotAsOpened};
 ghost use Rattle.reader.specs.Reading.{sound};
 ghost use Rattle.reader.specs.Following.{Sound, Onward, Ends, rest};
@@ -32,6 +32,19 @@ impl Reader {
     }
 }
 
+impl<'a> Tokens<'a> {
+    // The next token, as `next` gives it, with a promise that says besides where the reader then is.
+    pub fn advance(&mut self) -> Option<Token>
+        ensures { (self.new.src ≡ self.old.src) × MatchOption result
+            (Ends self.old.src.now self.old.reader × (self.new.reader ≡ self.old.reader))
+            (λ x. Onward self.old.src.now self.old.reader x self.new.reader) }
+    {
+        let (token, moved) = self.reader.found(self.src)?;
+        self.reader = moved;
+        Some(token)
+    }
+}
+
 impl<'a> Iterator for Tokens<'a> {
     type Item = Token;
 
@@ -39,16 +52,7 @@ impl<'a> Iterator for Tokens<'a> {
 
     ghost remaining = { item_count (λ s. rest s.src.now s.reader) };
 
-    // The next token; the reader is then behind it.
-    fn next(&mut self) -> Option<Token>
-        ensures steps { YieldsFirst (λ s. rest s.src.now s.reader) self.old result self.new }
-        ensures goes { MakesProgress (λ _. ⊤) (item_count (λ s. rest s.src.now s.reader)) self.old result self.new }
-        ensures moves { (self.new.src ≡ self.old.src) × MatchOption result
-            (Ends self.old.src.now self.old.reader × (self.new.reader ≡ self.old.reader))
-            (λ x. Onward self.old.src.now self.old.reader x self.new.reader) }
-    {
-        let (token, moved) = self.reader.found(self.src)?;
-        self.reader = moved;
-        Some(token)
+    fn next(&mut self) -> Option<Token> {
+        self.advance()
     }
 }

@@ -1,29 +1,29 @@
--- `fetching::fetch` meets its contract: its two tests are those of the definition, and storing is what is said of both passed.
+-- Each refusal is one test of the definition, and storing is what is said where all pass.
 -- Assumes nothing.
-use Rattle.std.proofs.Common.{sym, ◌∙◌}
-use Rattle.fetching.proofs.FetchingLaws.{sound_facts, fetched_unsound, fetched_none, fetched_all}
+use Rattle.std.proofs.Common.{rules}
+use Rattle.fetching.proofs.FetchingLaws.{fetched_unsound, fetched_above, fetched_none, fetched_all}
 use Rattle.fetching.proofs.fetch.Goals as goal
 
-pub fits-requires : goal.fits-requires
-fits-requires c = let a = c.args in (sound_facts a.src.now a.reader a.first (sym c.if-is_sound.true ∙ c.is_sound.ensures)).0
-
-pub store-stored-requires : goal.store-stored-requires
-store-stored-requires c =
+pub returns-in_err-tokens : goal.returns-in_err-tokens
+returns-in_err-tokens c =
     let a = c.args in
-    sound_facts a.src.now a.reader a.first (sym c.if-is_sound.true ∙ c.is_sound.ensures)
+    let e = fetched_unsound a.src.now a.reader a.room.now a.first a.need a.spare c.in_err-tokens.ensures.0 in
+    search (rules, e)
 
-pub returns-then-fits : goal.returns-then-fits
-returns-then-fits c =
+pub returns-then-reader-first : goal.returns-then-reader-first
+returns-then-reader-first c =
     let a = c.args in
-    fetched_all a.src.now a.reader a.room.now a.first a.need a.spare (sym c.if-is_sound.true ∙ c.is_sound.ensures)
-    (sym c.if-fits.true ∙ c.fits.ensures) c.store-stored.ensures.0 c.store-stored.ensures.1
+    fetched_above a.src.now a.reader a.room.now a.first a.need a.spare c.in_ok-tokens.ensures.0 c.if-reader-first.true
 
-pub returns-else-fits : goal.returns-else-fits
-returns-else-fits c =
+pub returns-then-not-fits : goal.returns-then-not-fits
+returns-then-not-fits c =
     let a = c.args in
-    fetched_none a.src.now a.reader a.room.now a.first a.need a.spare (sym c.if-is_sound.true ∙ c.is_sound.ensures) (sym c.if-fits.false ∙ c.fits.ensures)
+    let t = c.in_ok-tokens.ensures in
+    fetched_none a.src.now a.reader a.room.now a.first a.need a.spare t.0 c.if-reader-first.false (rw (t.1, t.2) at c.if-not-fits.ensures)
 
-pub returns-else-is_sound : goal.returns-else-is_sound
-returns-else-is_sound c =
+pub returns : goal.returns
+returns c =
     let a = c.args in
-    fetched_unsound a.src.now a.reader a.room.now a.first a.need a.spare (sym c.if-is_sound.false ∙ c.is_sound.ensures)
+    let t = c.in_ok-tokens.ensures in
+    let s = rw (t.1, t.2) at c.store.ensures in
+    fetched_all a.src.now a.reader a.room.now a.first a.need a.spare t.0 c.if-reader-first.false (rw (t.1, t.2) at c.if-not-fits.ensures) s.0 s.1

@@ -1,25 +1,23 @@
-use Rattle.std.proofs.Common.{arith}
+use Rattle.std.proofs.Common.{refl, arith}
 use Rattle.fetching.proofs.FetchingLaws.{storing_start, storing_end, storing_done, index_below, storing_next}
-use Rattle.reader.proofs.Answers.{onward, at_end}
 use Rattle.fetching.proofs.store.Goals as goal
+use Rattle.fetching.proofs.store.Goals.{else-loop-test, then-loop-test+in_default}
 
-pub loop-left-init : goal.loop-left-init
-loop-left-init c = storing_start c.args.room.now c.args.need c.requires.0 c.requires.1
+pub loop-init : goal.loop-init
+loop-init c = storing_start _ _ _ (omega arith) c.requires
 
-pub returns-in_default : goal.returns-in_default
-returns-in_default c =
-    let h = c.loop-left.invariant in
-    storing_end h (at_end h.sound c.scan.result c.scan.ensures c.in_default.not-Found)
+pub overflow_add-next : goal.overflow_add-next
+overflow_add-next c = omega (arith, index_below c.loop.invariant c.in-Some.ensures.1)
 
-pub overflow_add-index : goal.overflow_add-index
-overflow_add-index c =
-    let h = c.loop-left.invariant in
-    omega (arith, index_below h (onward h.sound c.scan.ensures c.in-Found.is))
-
-pub loop-left-preserved : goal.loop-left-preserved
-loop-left-preserved c =
-    let h = c.loop-left.invariant in
-    storing_next h (onward h.sound c.scan.ensures c.in-Found.is) (omega arith) c.write.ensures
+pub loop-preserved : goal.loop-preserved
+loop-preserved c =
+    let m = c.in-Some.ensures in
+    storing_next c.loop.invariant m.1 m.0 refl (omega arith) c.write.ensures
 
 pub returns : goal.returns
-returns c = storing_done c.loop-left.invariant (omega arith)
+returns c =
+    let h = c.loop.invariant in
+    elim c.loop-test.branch [
+      | else-loop-test w ↦ rw w.left-is (storing_done h (omega arith))
+      | then-loop-test+in_default w ↦ let m = w.in_default.ensures in rw (w.left-is, m.1.1) (storing_end h m.1.0)
+    ]

@@ -1,10 +1,8 @@
--- `fetching::store` meets its contract. The loop's invariant: to store what is ahead, in the room as it is, is to store all.
+-- The loop's invariant: to store what is left, in the room as it is, is to store all.
 -- Assumes nothing.
+use Rattle.std.proofs.Common.{◌-◌}
 use Rattle.fetching.specs.FetchingLaws.{Storing}
 use Rattle.fetching.proofs.store.Given as goal
 
-abbrev pub invariant-loop-left : goal.invariant-loop-left
-invariant-loop-left l = Storing l.src l.initial.at l.initial.room l.initial.index l.initial.left l.at l.room l.index l.left
-
-abbrev pub decreases-loop-left : goal.decreases-loop-left
-decreases-loop-left l = l.left
+abbrev pub invariant-loop : goal.invariant-loop
+invariant-loop l = Storing l.initial.left l.initial.room l.initial.next.0 l.need l.left l.room l.next.0 (l.need - l.counter)
