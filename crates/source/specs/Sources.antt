@@ -1,17 +1,15 @@
 -- The calls of a source are those of a reader (reader/specs/Reading), with the bytes kept beside it.
 -- Assumes nothing.
-use Rattle.std.specs.Prelude.{ℕ, List}
+use Rattle.std.specs.Prelude.{ℕ, List, Result, Ok, Err}
 use Rattle.std.specs.Borrow.{Bor}
-use Rattle.refusals.specs.declared.DoneAnswer.{DoneAnswer}
-use Rattle.refusals.specs.declared.DoneAnswer.TheVariants as of_done
+use Rattle.refusals.specs.declared.Given.{Given}
+use Rattle.refusals.specs.declared.Refusal.{Refusal}
 use Rattle.refusals.specs.Refusals.{number_of}
 use Rattle.refusals.specs.Calls.{Reply, reply}
 use Rattle.tokens.specs.declared.Mode.{Mode}
 use Rattle.reader.specs.declared.Reader.{Reader}
 use Rattle.reader.specs.Reading.{Answer, ready, refused, start, open_of, entered}
 use Rattle.source.specs.declared.Source.{Source}
-use Rattle.source.specs.declared.OpenGiven.{OpenGiven}
-use Rattle.source.specs.declared.Begun.{Begun}
 
 -- A source is bytes and a reader: its place and its mode.
 abbrev pub reader_of : Source → Reader
@@ -29,12 +27,9 @@ abbrev pub switched : Mode → Source → Source
 switched m s = source_at s.src (entered m (reader_of s))
 
 -- The code's answer in the reader's values: where opening is done, a reader at the start is ready.
-abbrev pub done_told : DoneAnswer → Answer
-done_told of_done.Done = ready start
-done_told (of_done.Refused n) = refused (number_of n)
+abbrev pub done_told : Result (Unit {0}) Refusal → Answer
+done_told (Ok u) = ready start
+done_told (Err n) = refused (number_of n)
 
-abbrev pub open_reply : OpenGiven → Reply Answer Source
-open_reply g = reply (done_told g.answer) g.source
-
-abbrev pub begun_reply : Begun → Reply Answer Reader
-begun_reply g = reply (done_told g.answer) g.reader
+abbrev pub open_reply : Given (Unit {0}) Source → Reply Answer Source
+open_reply g = reply (done_told g.answer) g.after
