@@ -205,6 +205,8 @@ function resolved(place, word,    found, core) {
     found = meaning(place, "◌" core "◌")
     if (found == "") found = meaning(place, core "◌")
     if (found == "") found = meaning(place, "◌" core)
+    # what clauses know without a line that names it
+    if (found == "" && word ~ /^(Some|None|Ok|Err)$/) found = "kit " word
     return found
 }
 
