@@ -1,11 +1,8 @@
--- The bookmarks (Bookmarks), one more of them (Inserting) and one less (Removing); their laws, and the turns of the loops.
+-- The bookmarks (Bookmarks), one more of them (Inserting) and one less (Removing), and their laws.
 pub mod Bookmarks
 pub mod HeldLaws
 pub mod TestLaws
-pub mod Turns
 pub mod Inserting
 pub mod InsertingLaws
-pub mod InsertingTurns
 pub mod Removing
 pub mod RemovingLaws
-pub mod RemovingTurns

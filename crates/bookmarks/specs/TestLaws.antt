@@ -1,8 +1,10 @@
 -- What the code tests of the bookmarks is what the definition does: of 64 places the length need not be looked at.
 -- One look at the definition's cases. Assumes nothing.
+use Prim.Native.Nat.{min}
 use Rattle.std.specs.Prelude.{ℕ, zero, suc, ◌≤◌, ◌<◌, ◌≡◌, refl, false, cond, ◌&&◌, List, length, take, drop, ltb}
-use Rattle.std.proofs.Common.{arith}
-use borrow.Author.Tests.{eq-eqb, le-leb, lt-leb}
+use Rattle.std.proofs.Common.{ap, arith}
+use borrow.Author.Tests.{eq-eqb, le-leb, lt-leb, ltb-true, ltb-false}
+use Rattle.patterns.proofs.Bools.{by_test}
 use Rattle.tokens.specs.declared.TokenIndex.{TokenIndex}
 use Rattle.token_record.specs.Record.{bookmark_limit}
 use Rattle.bookmarks.specs.Bookmarks.{in_order, unused, held, low_of}
@@ -26,3 +28,11 @@ pub low_first : (live : ℕ) (first i : TokenIndex) → 0 < live → low_of live
 unfolding low_of
 low_first zero first i h = absurd (omega arith)
 low_first (suc n) first i h = refl
+
+-- it is the smaller of both
+pub low_smaller : (live : ℕ) (first i : TokenIndex) → 0 < live → record { 0 = min first.0 i.0 } ≡ low_of live first i
+low_smaller live first i h =
+    rw (low_first live first i h)
+    (by_test (ltb first.0 i.0)
+    (λ t. rw t (ap (λ (n : ℕ). record { 0 = n }) (omega (arith, ltb-true first.0 i.0 t))))
+    (λ t. rw t (ap (λ (n : ℕ). record { 0 = n }) (omega (arith, ltb-false first.0 i.0 t)))))

@@ -1,16 +1,20 @@
-use Rattle.std.proofs.Common.{refl, ◌∙◌, arith, rules}
-use Rattle.bookmarks.specs.Turns.{unused_turn, unused_end}
+use Rattle.std.proofs.Common.{Bool, ◌&&◌, ◌+◌, eqb, get_or, drop, sym, ap, ◌∙◌}
+use Rattle.std.proofs.Math.Bool.{and-true, and_assoc}
+use Rattle.std.proofs.lemmas.List.{at_drop_more, at_drop_all}
+use Rattle.bookmarks.specs.Bookmarks.{unused_place, unused}
 use Rattle.bookmarks.proofs.is_unused.Goals as goal
 
-pub loop-i-init : goal.loop-i-init
-loop-i-init c = (search rules, search rules, refl)
-
-pub loop-i-preserved : goal.loop-i-preserved
-loop-i-preserved c =
-    let l = c.loop-i in
-    (omega arith, l.invariant.1, unused_turn c.args.bookmarks l.i (omega arith) l.zero ∙ l.invariant.2)
+pub loop-place-preserved : goal.loop-place-preserved
+unfolding unused
+loop-place-preserved c =
+    let l = c.loop-place in
+    let xs = c.args.places.now in
+    let e = at_drop_more unused xs l.place-index unused_place c.loop-place-test.true in
+    and_assoc l.zero (eqb (get_or xs l.place-index unused_place).0 0) (unused (drop (l.place-index + 1) xs)) ∙ ap (λ (b : Bool). l.zero && b) (sym e) ∙ l.invariant
 
 pub returns : goal.returns
+unfolding unused
 returns c =
-    let l = c.loop-i in
-    unused_end c.args.bookmarks l.i l.zero (omega arith) ∙ l.invariant.2
+    let l = c.loop-place in
+    let e = at_drop_all unused c.args.places.now l.place-index c.loop-place-test.false in
+    sym (and-true l.zero) ∙ ap (λ (b : Bool). l.zero && b) (sym e) ∙ l.invariant

@@ -1,30 +1,16 @@
-use Rattle.std.proofs.Common.{◌≡◌, ◌∙◌, zero-add, arith, rules, drop}
-use native.Mathlib.Nat.{sub-zero}
-use Rattle.bookmarks.specs.InsertingTurns.{place_turn, place_here, place_end}
+-- The place that the search finds, or else their number.
+-- Assumes nothing.
+use Rattle.std.proofs.Common.{ℕ, Option, unwrap_or, ltb, length, ap, ◌∙◌, arith, rules, tests}
+use Rattle.std.proofs.lemmas.Iterator.{YieldsList-from_slice}
+use Rattle.std.proofs.lemmas.Iterator.Search.{position_from_yields_List}
+use Rattle.tokens.specs.declared.TokenIndex.{TokenIndex}
+use Rattle.bookmarks.specs.InsertingLaws.{place_found, place_within}
 use Rattle.bookmarks.proofs.inserting.place.Goals as goal
-
-pub loop-i-init : goal.loop-i-init
-loop-i-init c = (search rules, search rules, search rules, rw (sub-zero, zero-add))
-
-pub returns-then-mark-bookmarks : goal.returns-then-mark-bookmarks
-returns-then-mark-bookmarks c =
-    let l = c.loop-i in
-    let a = c.args in
-    place_here a.bookmarks l.i (omega arith) a.n (omega arith) a.mark c.if-mark-bookmarks.true ∙ l.invariant.3
-
-pub loop-i-preserved : goal.loop-i-preserved
-loop-i-preserved c =
-    let l = c.loop-i in
-    let a = c.args in (
-      omega arith,
-      l.invariant.1,
-      l.invariant.2,
-      place_turn a.bookmarks l.i (omega arith) a.n (omega arith) a.mark c.if-mark-bookmarks.false ∙ l.invariant.3,
-    )
 
 pub returns : goal.returns
 returns c =
-    let l = c.loop-i in
     let a = c.args in
-    let e : l.i ≡ a.n = omega arith in
-    e ∙ place_end (drop a.n a.bookmarks) a.n a.mark ∙ (rw e at l.invariant.3)
+    let xs = a.live.now in
+    let q = position_from_yields_List (λ (m : TokenIndex). ltb a.mark.0 m.0) _ _ _ c.position.ensures.ran (YieldsList-from_slice xs cc) (λ x b q k. search (rules, tests)) in
+    let e = c.unwrap_or.ensures ∙ ap (λ (o : Option ℕ). unwrap_or o (length xs)) q ∙ place_found a.mark xs in
+    record { place = e; within = omega (arith, e, place_within a.mark xs) }

@@ -1,17 +1,21 @@
--- `bookmarks::remove` meets its contract: at the place found the shift takes the bookmark out, and none is live where no place is found.
+-- At the place found the copy takes the bookmark out, and none is live where no place is found.
 -- Assumes nothing.
-use Rattle.std.proofs.Common.{◌∙◌, rules}
-use Rattle.bookmarks.specs.RemovingLaws.{shifted_removed, none_removed}
+use Rattle.std.proofs.Common.{List, set, sym, ap, ◌∙◌}
+use Rattle.tokens.specs.declared.TokenIndex.{TokenIndex}
+use Rattle.bookmarks.specs.Bookmarks.{unused_place}
+use Rattle.bookmarks.specs.RemovingLaws.{found_within, copied_down, shifted_removed, none_removed}
 use Rattle.bookmarks.proofs.removing.remove.Goals as goal
 
-pub returns-then-at-lt-BOOKMARKS : goal.returns-then-at-lt-BOOKMARKS
-returns-then-at-lt-BOOKMARKS c =
-    let f = c in
-    let a = f.args in
-    c.shift_down.ensures ∙ shifted_removed a.live a.mark a.bookmarks (search rules) f.find-at.ensures (search rules)
+pub returns-in-Some : goal.returns-in-Some
+returns-in-Some c =
+    let a = c.args in
+    let at = c.in-Some.at in
+    let found = sym c.find.ensures ∙ c.in-Some.is in
+    ap (λ (x : List TokenIndex). set x 63 unused_place) c.copy_within.ensures.after
+    ∙ copied_down a.bookmarks.now at 63 c.told-bookmarks (found_within a.live a.mark a.bookmarks.now at 63 c.told-bookmarks found)
+    ∙ shifted_removed a.live a.mark a.bookmarks.now at found
 
-pub returns-else-at-lt-BOOKMARKS : goal.returns-else-at-lt-BOOKMARKS
-returns-else-at-lt-BOOKMARKS c =
-    let f = c in
-    let a = f.args in
-    none_removed a.live a.mark a.bookmarks (search rules) f.find-at.ensures (search rules)
+pub returns-in_default : goal.returns-in_default
+returns-in_default c =
+    let a = c.args in
+    none_removed a.live a.mark a.bookmarks.now (sym c.find.ensures ∙ c.in_default.is)
