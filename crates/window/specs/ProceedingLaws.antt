@@ -1,21 +1,19 @@
 -- How a call that wants tokens is answered: by what reaching them gives, refused as that was, or from there on.
 -- Assumes nothing.
-use Rattle.std.specs.Prelude.{ℕ, suc, ◌≤◌, List, length, ltb}
+use Rattle.std.specs.Prelude.{ℕ, suc, ◌≤◌, List, length, ltb, Result, Ok, Err}
 use Rattle.std.proofs.Math.Path.{◌≡◌}
 use Rattle.std.proofs.Common.{sym, ap, ◌∙◌, arith}
 use Rattle.std.proofs.Math.Bool.{true}
 use Rattle.std.proofs.Math.Dec.{leb}
 use borrow.Author.Tests.{le-leb}
 use Rattle.patterns.proofs.Bools.{by_test}
-use Rattle.refusals.specs.declared.DoneAnswer.TheVariants as of_done
 use Rattle.refusals.specs.declared.Refusal.{Refusal}
 use Rattle.refusals.specs.Refusals.{number_of}
 use Rattle.token_record.specs.Record.{Call, next_token, peek_token, Answer, done, refused, Reply, reply, wants}
+use Rattle.fetching.specs.declared.Stored.{Stored}
 use Rattle.window.specs.declared.Window.{Window}
-use Rattle.window.specs.declared.DoneGiven.{DoneGiven}
 use Rattle.window.specs.Window.{State, state, kept, sound, fetch, look, past, read_on, with_window, answered, step, done_told, done_reply}
 use Rattle.window.specs.SoundLaws.{Fit, fit}
-use Rattle.window.specs.declared.reaching.Reached.{Reached}
 use Rattle.window.specs.Reaching.{reach, reached}
 use Rattle.window.specs.Proceeding.{proceed}
 
@@ -40,32 +38,27 @@ module _ (src : List ℕ) (s : State) where
       rw p (by_test (ltb (fetch src n s).window.slots (kept (fetch src n s).window)) (λ q. rw q f.current_low) (λ q. rw q (omega (arith, f.current_low)))))
       (λ p. let no : refused 24 ≡ done = rw p at d in let z : ◌≡◌ {A = ℕ} 0 1 = cc in absurd (omega arith))
 
-  -- the code's answer g to reaching
-  module _ (n : ℕ) (g : DoneGiven) (room : List ℕ) (q : done_reply g room ≡ reach src n s) where
+  -- what the code came to, reaching
+  module _ (n : ℕ) (r : Result Stored Refusal) (room : List ℕ) (q : done_reply (reached s.window r) room ≡ reach src n s) where
     module _ (c : Call) (k : ℕ) (e : wants c ≡ suc k) (m : n ≡ suc k) where
-      proceeded : proceed c (done_told g.answer) (state g.window room) ≡ step src c s
+      proceeded : proceed c (done_told (reached s.window r).answer) (state (reached s.window r).after room) ≡ step src c s
       proceeded = ap (λ (y : Reply State). proceed c y.answer y.after) (q ∙ ap (λ (j : ℕ). reach src j s) m) ∙ proceeds c k e
 
-      pub went_on : g.answer ≡ of_done.Done → answered c (state g.window room) ≡ step src c s
-      unfolding proceed
-      went_on d = rw d at proceeded
-
-      pub refused_there : (x : Refusal) → g.answer ≡ of_done.Refused x → reply (refused (number_of x)) (state g.window room) ≡ step src c s
+      pub refused_there : (x : Refusal) → r ≡ Err x → reply (refused (number_of x)) (state s.window room) ≡ step src c s
       unfolding proceed
       refused_there x d = rw d at proceeded
 
-    pub reached_low : g.answer ≡ of_done.Done → g.window.current.0 ≤ g.window.fetched.0
-    reached_low d =
-        let told : (reach src n s).answer ≡ done = sym (ap (λ (y : Reply State). y.answer) q) ∙ ap done_told d in
-        rw (← q) at (reached_current n told)
+      pub went_on : (o : Stored) → r ≡ Ok o → {v : Window} → v ≡ read_on o.reader o.next.0 s.window → answered c (state v room) ≡ step src c s
+      unfolding proceed
+      went_on o d f = rw f (rw d at proceeded)
 
--- The code reads the window on to where its call came: what is given then.
-abbrev pub given : Reached → Window → DoneGiven
-given r v = record { answer = r.answer; window = v }
-
-pub read_there : (w v : Window) (r : Reached) (room : List ℕ) {y : Reply State} → v ≡ read_on r.reader r.fetched.0 w
-    → done_reply (reached w r) room ≡ y → done_reply (given r v) room ≡ y
-read_there w v r room e q = ap (λ (u : Window). done_reply (given r u) room) e ∙ q
+    pub reached_low : (o : Stored) → r ≡ Ok o → {v : Window} → v ≡ read_on o.reader o.next.0 s.window → v.current.0 ≤ v.fetched.0
+    reached_low o d f =
+        let told : (reach src n s).answer ≡ done =
+        sym (ap (λ (y : Reply State). y.answer) q) ∙ ap (λ (p : Result Stored Refusal). done_told (reached s.window p).answer) d in
+        let low : (reached s.window r).after.current.0 ≤ (reached s.window r).after.fetched.0 =
+        rw (ap (λ (y : Reply State). y.after.window) q) (reached_current n told) in
+        rw f (rw d at low)
 
 -- What next and peek answer.
 module _ (s : State) where

@@ -1,11 +1,14 @@
 -- Fetching for a call that wants n tokens, with its refusals: 24, then 2.
 -- Assumes nothing.
-use Rattle.std.specs.Prelude.{ℕ, cond, List, length, ltb}
+use Rattle.std.specs.Prelude.{ℕ, cond, List, length, ltb, Result, Ok, Err}
+use Rattle.refusals.specs.Calls as calls
+use Rattle.refusals.specs.declared.Given.{Given}
+use Rattle.refusals.specs.declared.Refusal.{Refusal}
 use Rattle.token_record.specs.Record.{done, refused, Reply, reply}
+use Rattle.fetching.specs.declared.Stored.{Stored}
+use Rattle.fetching.specs.Fetching as fetching
 use Rattle.window.specs.declared.Window.{Window}
-use Rattle.window.specs.declared.DoneGiven.{DoneGiven}
-use Rattle.window.specs.Window.{State, kept, sound, fetch, read_on}
-use Rattle.window.specs.declared.reaching.Reached.{Reached}
+use Rattle.window.specs.Window.{State, state, kept, sound, fetch, read_on}
 
 unfoldable pub reach : List ℕ → ℕ → State → Reply State
 reach src n s =
@@ -14,6 +17,15 @@ reach src n s =
     (cond (ltb v.window.slots (kept v.window)) (reply (refused 2) s) (reply done v))
     (reply (refused 24) s)
 
--- the answer and the window of a call that came to r: it reads on from there
-abbrev pub reached : Window → Reached → DoneGiven
-reached w r = record { answer = r.answer; window = read_on r.reader r.fetched.0 w }
+-- the answer and the window of a call that came to r: it reads on from there, or is as it was
+abbrev pub reached : Window → Result Stored Refusal → Given Unit Window
+reached w (Ok r) = record { answer = Ok tt; after = read_on r.reader r.next.0 w }
+reached w (Err n) = record { answer = Err n; after = w }
+
+-- the same of fetching's answer, in its values
+abbrev pub gained : Window → fetching.Answer → List ℕ → Reply State
+gained w (fetching.upto behind next) room = reply done (state (read_on behind next.0 w) room)
+gained w (fetching.refused n) room = reply (refused n) (state w room)
+
+abbrev pub turned : Window → calls.Reply fetching.Answer (List ℕ) → Reply State
+turned w o = gained w o.answer o.after

@@ -1,30 +1,29 @@
 -- What fetching answers is what is reached, for its test is that of the tokens kept; and no number of tokens beyond the source's bytes is
 -- more than all of them. Assumes nothing.
 use Prim.Native.Nat.{ℕ, suc, min, ◌+◌, ◌-◌, ◌≤◌, ◌<◌}
-use Rattle.std.specs.Prelude.{◌≡◌, true, false, ◌&&◌, List, leb, ltb}
+use Rattle.std.specs.Prelude.{◌≡◌, refl, true, false, ◌&&◌, List, leb, ltb, Result, Ok, Err}
 use Rattle.std.proofs.Common.{ap, ◌∙◌, arith}
 use Rattle.std.proofs.Math.ListN.{length}
 use borrow.Author.Tests.{le-leb, lt-leb, le-ltb, ltb-true, ltb-false, leb-true, leb-false}
 use Rattle.patterns.proofs.Bools.{by_test}
 use Rattle.patterns.specs.Determined.{Once}
 use Rattle.patterns.proofs.Determined.{once}
-use Rattle.refusals.specs.declared.DoneAnswer.{DoneAnswer}
+use Rattle.refusals.specs.declared.Refusal.{Refusal}
 use Rattle.tokens.specs.declared.TokenIndex.{TokenIndex}
 use Rattle.reader.specs.declared.Reader.{Reader}
 use Rattle.reader.specs.Reading.{source_limit, ahead}
 use Rattle.reader.specs.Reading as reading
 use Rattle.reader.proofs.Following.{ahead_all}
 use Rattle.token_record.specs.Record.{done, refused, reply, least}
-use Rattle.fetching.specs.Fetching.{fetched}
+use Rattle.fetching.specs.declared.Stored.{Stored}
+use Rattle.fetching.specs.Fetching.{fetched, outcome}
 use Rattle.bookmarks.specs.HeldLaws.{least_le}
 use Rattle.window.specs.declared.Window.{Window}
-use Rattle.window.specs.Window.{State, marks, kept, sound, fetch, done_reply}
+use Rattle.window.specs.Window.{State, marks, kept, sound, fetch, done_told, done_reply}
 use Rattle.window.specs.SoundLaws.{Fit, fit_sound}
 use Rattle.window.specs.WindowLaws.{fetch_none}
 use Rattle.window.specs.Determined.{done_read, done_same}
-use Rattle.window.specs.declared.reaching.Reached.{Reached}
-use Rattle.window.specs.Reaching.{reach, reached}
-use Rattle.window.specs.ReachingParts.{gathered, turned}
+use Rattle.window.specs.Reaching.{reach, reached, turned}
 
 -- from the limit on, every number of tokens is all of them
 ahead_most : (src : List ℕ) (r : Reader) (k : ℕ) → length src ≤ source_limit → ahead (min k source_limit) src r ≡ ahead k src r
@@ -58,7 +57,7 @@ module _ (src : List ℕ) (s : State) where
         rw (le-leb _ _ f.limit, le-leb _ _ f.inside, le-leb _ _ f.fetched_low)
 
     reached_fetched : (n : ℕ)
-        → turned s.window (gathered s.window.reader s.window.fetched (fetched src s.window.reader s.room s.window.fetched (beyond n) (s.window.slots - kept s.window)))
+        → turned s.window (fetched src s.window.reader s.room s.window.fetched (beyond n) (s.window.slots - kept s.window))
         ≡ reach src n s
     unfolding fetched reach fetch
     reached_fetched n =
@@ -80,7 +79,7 @@ module _ (src : List ℕ) (s : State) where
     -- as many as are wanted beyond those ready, which are fetched and not taken
     pub reached_by : (n need spare : ℕ) → s.window.fetched.0 - s.window.current.0 ≤ n
         → need ≡ min (n - (s.window.fetched.0 - s.window.current.0) + 1) source_limit → spare ≡ s.window.slots - kept s.window
-        → turned s.window (gathered s.window.reader s.window.fetched (fetched src s.window.reader s.room s.window.fetched need spare))
+        → turned s.window (fetched src s.window.reader s.room s.window.fetched need spare)
         ≡ reach src (suc n) s
     reached_by n need spare h p q =
         let w = s.window in
@@ -88,10 +87,21 @@ module _ (src : List ℕ) (s : State) where
         let most : fetched src w.reader s.room w.fetched need spare
         ≡ fetched src w.reader s.room w.fetched (beyond (suc n)) (w.slots - kept w) =
         rw (p, q, k) (fetched_most src w.reader s.room w.fetched (beyond (suc n)) (w.slots - kept w) f.limit) in
-        ap (λ o. turned w (gathered w.reader w.fetched o)) most ∙ reached_fetched (suc n)
+        ap (turned w) most ∙ reached_fetched (suc n)
+
+-- what fetching's outcome comes to, in its values
+pub reached_turned : (w : Window) (r : Result Stored Refusal) (room : List ℕ) → done_reply (reached w r) room ≡ turned w (outcome r room)
+reached_turned w (Ok r) room = refl
+reached_turned w (Err n) room = refl
 
 -- The contract of reaching leaves no choice: what it came to can be read back.
-pub reached_once : (w : Window) → Once (λ (p : Reached × List ℕ). done_reply (reached w p.0) p.1)
-reached_once w =
-    once _ (λ y. (record { answer = done_read y.answer; reader = y.after.window.reader; fetched = y.after.window.fetched }, y.after.room))
-    (λ p. ap (λ (a : DoneAnswer). (record { answer = a; reader = p.0.reader; fetched = p.0.fetched }, p.1)) (done_same p.0.answer))
+pub reached_once : (w : Window) → Once (λ (p : Result Stored Refusal × List ℕ). done_reply (reached w p.0) p.1)
+reached_once w = once _ (λ y. (came (done_read y.answer) (record { reader = y.after.window.reader; next = y.after.window.fetched }), y.after.room)) (λ p. ap (λ (r : Result Stored Refusal). (r, p.1)) (came_back p.0))
+  where
+    came : Result Unit Refusal → Stored → Result Stored Refusal
+    came (Ok u) s = Ok s
+    came (Err n) s = Err n
+
+    came_back : (r : Result Stored Refusal) → came (done_read (done_told (reached w r).answer)) (record { reader = (reached w r).after.reader; next = (reached w r).after.fetched }) ≡ r
+    came_back (Ok s) = refl
+    came_back (Err n) = ap (λ (a : Result Unit Refusal). came a (record { reader = w.reader; next = w.fetched })) (done_same (Err n))

@@ -1,17 +1,16 @@
 -- What a loop over `next_token` leans on: each token that is handed out moves the window on by one, and no source has more tokens than
 -- bytes. So the bytes less the current index fall with each turn, whatever window and room the loop was started with. Assumes nothing.
-use Rattle.std.specs.Prelude.{ℕ, ◌+◌, ◌-◌, ◌≤◌, ◌≡◌, List, length}
+use Rattle.std.specs.Prelude.{ℕ, ◌+◌, ◌-◌, ◌≤◌, ◌≡◌, List, length, Option, Some, Ok}
 use Rattle.std.proofs.Common.{sym, ap, ◌∙◌}
 use native.Mathlib.Omega.{arith}
 use borrow.Author.Tests.{ltb-true}
 use Rattle.patterns.proofs.Bools.{by_test}
 use Rattle.tokens.specs.declared.Token.{Token}
+use Rattle.refusals.specs.declared.Given.{Given}
 use Rattle.reader.specs.Following.{Sound}
 use Rattle.reader.proofs.Following.{ahead_far, ahead_sound}
 use Rattle.token_record.specs.Record.{next_token, token, none, refused, Reply}
 use Rattle.window.specs.declared.Window.{Window}
-use Rattle.window.specs.declared.TokenAnswer.TheVariants as of_token
-use Rattle.window.specs.declared.TokenGiven.{TokenGiven}
 use Rattle.window.specs.Window.{State, state, sound, fetch, more, answered, overfull, step, token_told, token_reply}
 use Rattle.window.specs.SoundLaws.{Fit, fit}
 
@@ -63,8 +62,8 @@ module _ (src : List ℕ) (s : State) where
       (λ e. rw e (λ p. absurd (not_refused 24 x p)))
 
 -- of the code: what a caller of `next_token` knows once it was given a token
-pub taken : (src room room' : List ℕ) (w : Window) (g : TokenGiven) (x : Token)
-    → token_reply g room' ≡ step src next_token (state w room) → g.answer ≡ of_token.Token x → Further src w g.window
+pub taken : (src room room' : List ℕ) (w : Window) (g : Given (Option Token) Window) (x : Token)
+    → token_reply g room' ≡ step src next_token (state w room) → g.answer ≡ Ok (Some x) → Further src w g.after
 taken src room room' w g x e p =
     rw (← ap (λ (y : Reply State). y.after.window) e) at
     (step_took src (state w room) x (sym (ap (λ (y : Reply State). y.answer) e) ∙ ap token_told p))

@@ -1,8 +1,8 @@
 -- The tests of refusal 24 as the code groups them; one that fails is enough for the refusal. Where the bookmarks are held in order, the
 -- first tells how many tokens are kept. Assumes nothing.
-use Rattle.std.specs.Prelude.{ℕ, ◌-◌, ◌≤◌, ◌≡◌, refl, Bool, true, false, ◌&&◌, List, [], ◌∷◌, get_or, eqb, leb}
+use Rattle.std.specs.Prelude.{ℕ, ◌-◌, ◌≤◌, ◌≡◌, Bool, true, false, ◌&&◌, List, [], ◌∷◌, get_or, eqb, leb}
 use Rattle.std.proofs.Common.{sym, ap, ◌∙◌, le-leb}
-use Rattle.std.proofs.Math.Bool.{and-true}
+use Rattle.std.proofs.Math.Bool.{and-true, and_assoc}
 use Rattle.patterns.specs.Lists.{each}
 use Rattle.patterns.proofs.Lists.{each_fails}
 use Rattle.reader.specs.Reading.{source_limit}
@@ -18,10 +18,6 @@ kept_behind_first w = w.fetched.0 - (low_of w.live (get_or w.bookmarks 0 unused_
 
 pub kept_in_order : (w : Window) → held w.live w.fetched.0 w.bookmarks ≡ true → kept_behind_first w ≡ kept w
 kept_in_order w e = ap (λ (n : ℕ). w.fetched.0 - n) (low_least (held_facts e) w.current)
-
-and_and : (a b c : Bool) → ((a && b) && c) ≡ (a && (b && c))
-and_and true b c = refl
-and_and false b c = refl
 
 -- The source and the room as at opening; and the place, behind so many tokens and within the source.
 abbrev pub as_opened : ℕ → ℕ → ℕ → ℕ → Bool
@@ -44,7 +40,7 @@ module _ (bytes len : ℕ) (w : Window) where
   grouped : each (λ b. b) parts ≡ sound bytes len w
   unfolding sound
   grouped =
-      simp and_and
+      simp and_assoc
 
   -- one of them that fails
   pub unsound : (k : ℕ) → get_or parts k true ≡ false → false ≡ sound bytes len w

@@ -1,12 +1,13 @@
 -- The window's calls: what each answers, and the window and the room that it leaves, for every window, source and room.
 -- Assumes nothing.
-use Rattle.std.specs.Prelude.{ℕ, ◌+◌, ◌-◌, Bool, cond, ◌&&◌, List, [], ◌∷◌, length, take, eqb, leb, ltb}
+use Rattle.std.specs.Prelude.{ℕ, ◌+◌, ◌-◌, Bool, cond, ◌&&◌, List, [], ◌∷◌, length, take, eqb, leb, ltb, Option, Some, None, Result, Ok, Err}
 use Rattle.patterns.specs.Lists.{each}
 use Rattle.tokens.specs.declared.Mode.{Mode}
 use Rattle.tokens.specs.declared.Mode.TheVariants.{Normal, HexPattern, HexJump}
+use Rattle.tokens.specs.declared.Token.{Token}
 use Rattle.tokens.specs.declared.TokenIndex.{TokenIndex}
-use Rattle.refusals.specs.declared.DoneAnswer.{DoneAnswer}
-use Rattle.refusals.specs.declared.DoneAnswer.TheVariants as of_done
+use Rattle.refusals.specs.declared.Given.{Given}
+use Rattle.refusals.specs.declared.Refusal.{Refusal}
 use Rattle.refusals.specs.Refusals.{number_of}
 use Rattle.reader.specs.declared.Reader.{Reader}
 use Rattle.reader.specs.Reading.{source_limit, entered, ahead}
@@ -16,16 +17,6 @@ use Rattle.token_record.specs.Record.{Answer, token, none, truth, index, done, r
 use Rattle.token_room.specs.Room.{slots_in, nth, read, write_all}
 use Rattle.bookmarks.specs.Bookmarks.{padded, held, insert}
 use Rattle.window.specs.declared.Window.{Window}
-use Rattle.window.specs.declared.TokenAnswer.{TokenAnswer}
-use Rattle.window.specs.declared.TokenAnswer.TheVariants as of_token
-use Rattle.window.specs.declared.TokenGiven.{TokenGiven}
-use Rattle.window.specs.declared.MoreAnswer.{MoreAnswer}
-use Rattle.window.specs.declared.MoreAnswer.TheVariants as of_more
-use Rattle.window.specs.declared.MoreGiven.{MoreGiven}
-use Rattle.window.specs.declared.IndexAnswer.{IndexAnswer}
-use Rattle.window.specs.declared.IndexAnswer.TheVariants as of_index
-use Rattle.window.specs.declared.IndexGiven.{IndexGiven}
-use Rattle.window.specs.declared.DoneGiven.{DoneGiven}
 
 -- What a call is handed beside the source, and leaves: the window, and every lent number.
 pub record State : Type 0 where
@@ -150,31 +141,34 @@ step src c s =
     (reply (refused 24) s)
 
 -- The code's answers in document 01's values, with the window given back and the room.
-abbrev pub token_told : TokenAnswer → Answer
-token_told (of_token.Token x) = token x
-token_told of_token.None = none
-token_told (of_token.Refused n) = refused (number_of n)
+abbrev pub told_by : {T : Type 0} → (T → Answer) → Result T Refusal → Answer
+told_by f (Ok x) = f x
+told_by f (Err n) = refused (number_of n)
 
-abbrev pub more_told : MoreAnswer → Answer
-more_told (of_more.More b) = truth b
-more_told (of_more.Refused n) = refused (number_of n)
+abbrev pub token_or_none : Option Token → Answer
+token_or_none (Some x) = token x
+token_or_none None = none
 
-abbrev pub index_told : IndexAnswer → Answer
-index_told (of_index.Index i) = index i
-index_told (of_index.Refused n) = refused (number_of n)
+abbrev pub token_told : Result (Option Token) Refusal → Answer
+token_told = told_by token_or_none
 
-abbrev pub done_told : DoneAnswer → Answer
-done_told of_done.Done = done
-done_told (of_done.Refused n) = refused (number_of n)
+abbrev pub more_told : Result Bool Refusal → Answer
+more_told = told_by truth
 
-abbrev pub token_reply : TokenGiven → List ℕ → Reply State
-token_reply g room = reply (token_told g.answer) (state g.window room)
+abbrev pub index_told : Result TokenIndex Refusal → Answer
+index_told = told_by index
 
-abbrev pub more_reply : MoreGiven → List ℕ → Reply State
-more_reply g room = reply (more_told g.answer) (state g.window room)
+abbrev pub done_told : Result Unit Refusal → Answer
+done_told = told_by (λ u. done)
 
-abbrev pub index_reply : IndexGiven → List ℕ → Reply State
-index_reply g room = reply (index_told g.answer) (state g.window room)
+abbrev pub token_reply : Given (Option Token) Window → List ℕ → Reply State
+token_reply g room = reply (token_told g.answer) (state g.after room)
 
-abbrev pub done_reply : DoneGiven → List ℕ → Reply State
-done_reply g room = reply (done_told g.answer) (state g.window room)
+abbrev pub more_reply : Given Bool Window → List ℕ → Reply State
+more_reply g room = reply (more_told g.answer) (state g.after room)
+
+abbrev pub index_reply : Given TokenIndex Window → List ℕ → Reply State
+index_reply g room = reply (index_told g.answer) (state g.after room)
+
+abbrev pub done_reply : Given Unit Window → List ℕ → Reply State
+done_reply g room = reply (done_told g.answer) (state g.after room)

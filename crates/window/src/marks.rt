@@ -3,89 +3,61 @@ ghost use Rattle.std.specs.Prelude.{◌≡◌};
 ghost use Rattle.token_record.specs.Record.{bookmark, restore_bookmark, remove_bookmark};
 ghost use Rattle.window.specs.Window.{state, step, index_reply, done_reply};
 
-use crate::{DoneGiven, IndexAnswer, IndexGiven, Window};
+use crate::{Given, Window};
 use bookmarks::BOOKMARKS;
-use refusals::{DoneAnswer, Refusal};
+use refusals::Refusal;
 use tokens::TokenIndex;
 
 impl Window {
     // A bookmark of the current index.
-    pub fn bookmark(self, src: &[u8], room: &[u32]) -> IndexGiven
+    pub fn bookmark(self, src: &[u8], room: &[u32]) -> Given<TokenIndex>
         ensures { index_reply result room.now ≡ step src.now bookmark (state self room.now) }
     {
         if !self.is_sound(src.len(), room.len()) {
-            return IndexGiven {
-                answer: IndexAnswer::Refused(Refusal::NotAsOpened),
-                window: self,
-            };
+            return Given::refused(Refusal::NotAsOpened, self);
         }
         if self.live as usize == BOOKMARKS {
-            return IndexGiven {
-                answer: IndexAnswer::Refused(Refusal::TooManyBookmarks),
-                window: self,
-            };
+            return Given::refused(Refusal::TooManyBookmarks, self);
         }
-        let current = self.current;
-        let marks = self.bookmarks;
-        let marked = bookmarks::insert(marks, self.live, current);
         let mut after = self;
-        after.bookmarks = marked;
-        after.live = self.live + 1;
-        IndexGiven {
-            answer: IndexAnswer::Index(current),
-            window: after,
-        }
+        bookmarks::insert(&mut after.bookmarks, self.live, self.current);
+        after.live += 1;
+        Given::done(self.current, after)
     }
 
     // Goes back, or on, to a live bookmark.
-    pub fn restore_bookmark(self, src: &[u8], room: &[u32], mark: TokenIndex) -> DoneGiven
+    pub fn restore_bookmark(self, src: &[u8], room: &[u32], mark: TokenIndex) -> Given<()>
         ensures { done_reply result room.now ≡ step src.now (restore_bookmark mark) (state self room.now) }
     {
         if !self.is_sound(src.len(), room.len()) {
-            return DoneGiven {
-                answer: DoneAnswer::Refused(Refusal::NotAsOpened),
-                window: self,
-            };
+            return Given::refused(Refusal::NotAsOpened, self);
         }
-        let among = self.bookmarks;
-        if !bookmarks::has(among, self.live, mark) {
-            return DoneGiven {
-                answer: DoneAnswer::Refused(Refusal::NotLive),
-                window: self,
-            };
-        }
-        let mut after = self;
-        after.current = mark;
-        DoneGiven {
-            answer: DoneAnswer::Done,
-            window: after,
+        if bookmarks::has(&self.bookmarks, self.live, mark) {
+            Given::done(
+                (),
+                Window {
+                    current: mark,
+                    ..self
+                },
+            )
+        } else {
+            Given::refused(Refusal::NotLive, self)
         }
     }
 
     // Drops a live bookmark.
-    pub fn remove_bookmark(self, src: &[u8], room: &[u32], mark: TokenIndex) -> DoneGiven
+    pub fn remove_bookmark(self, src: &[u8], room: &[u32], mark: TokenIndex) -> Given<()>
         ensures { done_reply result room.now ≡ step src.now (remove_bookmark mark) (state self room.now) }
     {
         if !self.is_sound(src.len(), room.len()) {
-            return DoneGiven {
-                answer: DoneAnswer::Refused(Refusal::NotAsOpened),
-                window: self,
-            };
+            return Given::refused(Refusal::NotAsOpened, self);
         }
-        let marks = self.bookmarks;
-        if !bookmarks::has(marks, self.live, mark) {
-            return DoneGiven {
-                answer: DoneAnswer::Refused(Refusal::NotLive),
-                window: self,
-            };
+        if !bookmarks::has(&self.bookmarks, self.live, mark) {
+            return Given::refused(Refusal::NotLive, self);
         }
-        let left = bookmarks::remove(marks, self.live, mark);
         let mut after = self;
-        after.bookmarks = left;
-        after.live = self.live - 1;
-        DoneGiven {
-            answer: DoneAnswer::Done,
-            window: after,
-        }
+        bookmarks::remove(&mut after.bookmarks, self.live, mark);
+        after.live -= 1;
+        Given::done((), after)
     }
 }

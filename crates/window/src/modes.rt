@@ -4,30 +4,24 @@ ghost use Rattle.token_record.specs.Record.{current_token_index, enter_hex_patte
 ghost use Rattle.window.specs.Window.{state, step, index_reply, done_reply};
 ghost use Rattle.window.specs.SwitchLaws.{switch};
 
-use crate::{DoneGiven, IndexAnswer, IndexGiven, Window};
+use crate::{Given, Window};
 use reader::Reader;
-use refusals::{DoneAnswer, Refusal};
+use refusals::Refusal;
+use tokens::TokenIndex;
 
 impl Window {
     // The index of the current token.
-    pub fn current_token_index(self, src: &[u8], room: &[u32]) -> IndexGiven
+    pub fn current_token_index(self, src: &[u8], room: &[u32]) -> Given<TokenIndex>
         ensures { index_reply result room.now ≡ step src.now current_token_index (state self room.now) }
     {
         if !self.is_sound(src.len(), room.len()) {
-            return IndexGiven {
-                answer: IndexAnswer::Refused(Refusal::NotAsOpened),
-                window: self,
-            };
+            return Given::refused(Refusal::NotAsOpened, self);
         }
-        let index = self.current;
-        IndexGiven {
-            answer: IndexAnswer::Index(index),
-            window: self,
-        }
+        Given::done(self.current, self)
     }
 
     // Switches to the pattern mode, behind the last token fetched.
-    pub fn enter_hex_pattern_mode(self, src: &[u8], room: &[u32]) -> DoneGiven
+    pub fn enter_hex_pattern_mode(self, src: &[u8], room: &[u32]) -> Given<()>
         ensures { done_reply result room.now ≡ step src.now enter_hex_pattern_mode (state self room.now) }
     {
         let in_pattern_mode = self.reader.enter_hex_pattern_mode();
@@ -35,7 +29,7 @@ impl Window {
     }
 
     // Switches to the jump mode, behind the last token fetched.
-    pub fn enter_hex_jump_mode(self, src: &[u8], room: &[u32]) -> DoneGiven
+    pub fn enter_hex_jump_mode(self, src: &[u8], room: &[u32]) -> Given<()>
         ensures { done_reply result room.now ≡ step src.now enter_hex_jump_mode (state self room.now) }
     {
         let in_jump_mode = self.reader.enter_hex_jump_mode();
@@ -43,19 +37,12 @@ impl Window {
     }
 
     // Tests the window, and goes on with another reader behind the last token fetched.
-    fn switch(self, bytes: usize, len: usize, reader: Reader) -> DoneGiven
+    fn switch(self, bytes: usize, len: usize, reader: Reader) -> Given<()>
         ensures { result ≡ switch bytes len reader self }
     {
-        if self.is_sound(bytes, len) {
-            DoneGiven {
-                answer: DoneAnswer::Done,
-                window: self.read_on(reader, self.fetched),
-            }
-        } else {
-            DoneGiven {
-                answer: DoneAnswer::Refused(Refusal::NotAsOpened),
-                window: self,
-            }
+        if !self.is_sound(bytes, len) {
+            return Given::refused(Refusal::NotAsOpened, self);
         }
+        Given::done((), self.read_on(reader, self.fetched))
     }
 }

@@ -6,7 +6,6 @@ use Rattle.token_record.specs.Record.{Call, next_token, peek_token, has_more, bo
 use Rattle.token_room.specs.Room.{nth}
 use Rattle.window.specs.Window.{State, state}
 use Rattle.window_scripts.specs.declared.asking.ToldGiven.{ToldGiven}
-use Rattle.window_scripts.specs.declared.asking.Told.{Told}
 
 -- A call is two numbers: which one, and its argument.
 abbrev pub calls : ℕ → List Call
@@ -46,11 +45,8 @@ abbrev pub form : Form Call Answer
 form = record { call_width = 2; call_of = λ f. call_of (f 0) (f 1); answer_width = 4; numbers = numbers; sized = four }
 
 -- What the code gives, with the room; and a reply, its answer as numbers.
-abbrev pub told_numbers : Told → List ℕ
-told_numbers n = n.tag ∷ n.first ∷ n.second ∷ n.third ∷ []
-
 abbrev pub told_reply : ToldGiven → List ℕ → State × List ℕ
-told_reply c room = (state c.window room, told_numbers c.told)
+told_reply c room = (state c.window room, c.told)
 
 abbrev pub told_of : Reply State → State × List ℕ
 told_of y = (y.after, numbers y.answer)

@@ -10,7 +10,7 @@ use Rattle.token_record.specs.Record.{current_token_index, Answer, Reply, reply}
 use Rattle.window.specs.declared.Window.{Window}
 use Rattle.window.specs.Window.{State, state}
 use Rattle.window_scripts.specs.declared.asking.ToldGiven.{ToldGiven}
-use Rattle.window_scripts.specs.Asking.{calls, call_of, numbers, told_numbers, told_reply, told_of}
+use Rattle.window_scripts.specs.Asking.{calls, call_of, numbers, told_reply, told_of}
 
 -- The call of a number.
 pub call_known : (op arg n : ℕ) → op ≡ n → call_of op arg ≡ get_or (calls arg) n current_token_index
@@ -34,7 +34,7 @@ call_plain op arg h =
 -- The answer and the window of a call, told; and that this is its reply.
 pub record Tells (a : Answer) (w : Window) (c : ToldGiven) : Type 0 where
   pub window_after : c.window ≡ w
-  pub answer_told : told_numbers c.told ≡ numbers a
+  pub answer_told : c.told ≡ numbers a
 
 pub gave : {y : Reply State} {a : Answer} {w : Window} {room : List ℕ} {c : ToldGiven} → reply a (state w room) ≡ y → Tells a w c → told_reply c room ≡ told_of y
 gave e t = rw (← e, t.window_after, t.answer_told)
@@ -42,11 +42,4 @@ gave e t = rw (← e, t.window_after, t.answer_told)
 pub told_once : Once (λ (p : ToldGiven × List ℕ). told_reply p.0 p.1)
 told_once =
     once _
-    (λ q. (
-      record {
-        window = q.0.window;
-        told = record { tag = get_or q.1 0 0; first = get_or q.1 1 0; second = get_or q.1 2 0; third = get_or q.1 3 0 };
-      },
-      q.0.room,
-    ))
-    (λ p. refl)
+    (λ q. (record { window = q.0.window; told = q.1 }, q.0.room)) (λ p. refl)

@@ -12,16 +12,15 @@ use Rattle.window.proofs.Window.bookmark.Goals as goal
 pub returns-then-not-is_sound : goal.returns-then-not-is_sound
 returns-then-not-is_sound c =
     let a = c.args in
-    not_sound a.src.now (state a.self a.room.now) bookmark
-    (sym c.is_sound.ensures ∙ c.if-not-is_sound.true)
+    rw c.«refused».ensures (not_sound a.src.now (state a.self a.room.now) bookmark (sym c.is_sound.ensures ∙ c.if-not-is_sound.true))
 
 pub returns-then-self-eq-BOOKMARKS : goal.returns-then-self-eq-BOOKMARKS
 returns-then-self-eq-BOOKMARKS c =
     let a = c.args in
     let s = state a.self a.room.now in
     let h : bookmark_limit ≤ a.self.live = omega arith in
-    full s h
-    ∙ answered_now a.src.now s bookmark refl (fit _ _ _ (sym c.is_sound.ensures ∙ c.if-not-is_sound.false))
+    rw c.refused-then-self-eq-BOOKMARKS.ensures
+    (full s h ∙ answered_now a.src.now s bookmark refl (fit _ _ _ (sym c.is_sound.ensures ∙ c.if-not-is_sound.false)))
 
 pub overflow_add-after : goal.overflow_add-after
 overflow_add-after c = let h = held_facts (fit _ _ _ (sym c.is_sound.ensures ∙ c.if-not-is_sound.false)).held_marks in omega (arith, h.few)
@@ -33,5 +32,6 @@ returns c =
     let f = fit _ _ _ (sym c.is_sound.ensures ∙ c.if-not-is_sound.false) in
     let h = held_facts f.held_marks in
     let l : a.self.live < bookmark_limit = omega (arith, h.few) in
-    one_more s h _ l c.insert-marked.ensures
-    ∙ answered_now a.src.now s bookmark refl f
+    rw c.done.ensures
+    (one_more s h _ l c.insert.ensures
+    ∙ answered_now a.src.now s bookmark refl f)

@@ -3,7 +3,8 @@
 use Rattle.std.proofs.Common.{refl, ap, ◌∙◌}
 use Rattle.tokens.specs.declared.Mode.TheVariants.{HexJump}
 use Rattle.token_record.specs.Record.{enter_hex_jump_mode}
-use Rattle.window.specs.declared.DoneGiven.{DoneGiven}
+use Rattle.refusals.specs.declared.Given.{Given}
+use Rattle.window.specs.declared.Window.{Window}
 use Rattle.window.specs.Window.{state, answered, done_reply}
 use Rattle.window.specs.SwitchLaws.{switches}
 use Rattle.window.proofs.Window.enter_hex_jump_mode.Goals as goal
@@ -12,5 +13,5 @@ pub returns : goal.returns
 unfolding answered
 returns c =
     let a = c.args in
-    ap (λ (g : DoneGiven). done_reply g a.room.now) c.switch.ensures
+    ap (λ (g : Given Unit Window). done_reply g a.room.now) c.switch.ensures
     ∙ switches a.src.now (state a.self a.room.now) _ enter_hex_jump_mode HexJump refl refl c.enter_hex_jump_mode-in_jump_mode.ensures

@@ -1,35 +1,28 @@
--- What reaching gives, and the window read on to it (read_there), is what the call goes on from; then `look`.
+-- What reaching gives, and the window read on to it, is what the call goes on from; then `look`.
 -- Assumes nothing.
 use Rattle.std.proofs.Common.{suc, refl, ◌∙◌}
 use Rattle.token_record.specs.Record.{peek_token}
 use Rattle.window.specs.Window.{state}
-use Rattle.window.specs.ProceedingLaws.{given, read_there, went_on, refused_there, reached_low, peeked}
+use Rattle.window.specs.ProceedingLaws.{went_on, refused_there, reached_low, peeked}
 use Rattle.window.proofs.Window.peek_token.Goals as goal
 
 pub look-requires : goal.look-requires
 look-requires c =
     let a = c.args in
-    let g = c.reach-reached in
-    let v = c.read_on-after in
-    let q = read_there a.self v.result g.result g.new.room v.ensures g.ensures in
-    reached_low a.src.now (state a.self a.room.now) (suc a.n) (given g.result v.result) g.new.room q
-    c.in-Done.is
+    reached_low a.src.now (state a.self a.room.now) (suc a.n) c.reach.result c.reach.new.room c.reach.ensures c.in-Ok.reached c.in-Ok.is c.read_on-after.ensures
 
-pub returns-in-Done : goal.returns-in-Done
-returns-in-Done c =
+pub returns-in-Ok : goal.returns-in-Ok
+returns-in-Ok c =
     let a = c.args in
-    let g = c.reach-reached in
-    let v = c.read_on-after in
-    let q = read_there a.self v.result g.result g.new.room v.ensures g.ensures in
-    peeked (state v.result g.new.room) a.n _ c.look.ensures
-    ∙ went_on a.src.now (state a.self a.room.now) (suc a.n) (given g.result v.result) g.new.room q
-    (peek_token a.n) a.n refl refl c.in-Done.is
+    let v = state c.read_on-after.result c.reach.new.room in
+    rw c.done.ensures
+    (peeked v a.n _ c.look.ensures
+    ∙ went_on a.src.now (state a.self a.room.now) (suc a.n) c.reach.result c.reach.new.room c.reach.ensures
+    (peek_token a.n) a.n refl refl c.in-Ok.reached c.in-Ok.is c.read_on-after.ensures)
 
-pub returns-in-Refused : goal.returns-in-Refused
-returns-in-Refused c =
+pub returns-in-Err : goal.returns-in-Err
+returns-in-Err c =
     let a = c.args in
-    let g = c.reach-reached in
-    let v = c.read_on-after in
-    let q = read_there a.self v.result g.result g.new.room v.ensures g.ensures in
-    refused_there a.src.now (state a.self a.room.now) (suc a.n) (given g.result v.result) g.new.room q
-    (peek_token a.n) a.n refl refl _ c.in-Refused.is
+    rw c.«refused».ensures
+    (refused_there a.src.now (state a.self a.room.now) (suc a.n) c.reach.result c.reach.new.room c.reach.ensures
+    (peek_token a.n) a.n refl refl c.in-Err.refusal c.in-Err.is)

@@ -6,14 +6,10 @@ use Rattle.window.specs.SoundLaws.{fit}
 use Rattle.window.specs.ReachingLaws.{not_reached}
 use Rattle.window.proofs.Window.reach.Goals as goal
 
-pub fetch-requires : goal.fetch-requires
-fetch-requires c = fit _ _ _ (sym c.is_sound.ensures ∙ c.if-is_sound.true)
-
-pub returns-then-is_sound : goal.returns-then-is_sound
-returns-then-is_sound c = c.fetch.ensures
-
-pub returns : goal.returns
-returns c =
+pub returns-then-not-is_sound : goal.returns-then-not-is_sound
+returns-then-not-is_sound c =
     let a = c.args in
-    rw c.still.ensures
-    (not_reached a.src.now (state a.self a.room.now) _ (sym c.is_sound.ensures ∙ c.if-is_sound.false))
+    not_reached a.src.now (state a.self.now a.room.now) _ (sym c.is_sound.ensures ∙ c.if-not-is_sound.true)
+
+pub fetch-requires : goal.fetch-requires
+fetch-requires c = fit _ _ _ (sym c.is_sound.ensures ∙ c.if-not-is_sound.false)

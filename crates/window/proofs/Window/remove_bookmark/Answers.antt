@@ -12,15 +12,16 @@ use Rattle.window.proofs.Window.remove_bookmark.Goals as goal
 pub returns-then-not-is_sound : goal.returns-then-not-is_sound
 returns-then-not-is_sound c =
     let a = c.args in
-    not_sound a.src.now (state a.self a.room.now) (remove_bookmark a.mark)
-    (sym c.is_sound.ensures ∙ c.if-not-is_sound.true)
+    rw c.«refused».ensures
+    (not_sound a.src.now (state a.self a.room.now) (remove_bookmark a.mark) (sym c.is_sound.ensures ∙ c.if-not-is_sound.true))
 
 pub returns-then-not-has : goal.returns-then-not-has
 returns-then-not-has c =
     let a = c.args in
     let s = state a.self a.room.now in
-    not_removed s a.mark (sym c.has.ensures ∙ c.if-not-has.true)
-    ∙ answered_now a.src.now s (remove_bookmark a.mark) refl (fit _ _ _ (sym c.is_sound.ensures ∙ c.if-not-is_sound.false))
+    rw c.refused-then-not-has.ensures
+    (not_removed s a.mark (sym c.has.ensures ∙ c.if-not-has.true)
+    ∙ answered_now a.src.now s (remove_bookmark a.mark) refl (fit _ _ _ (sym c.is_sound.ensures ∙ c.if-not-is_sound.false)))
 
 pub overflow_sub-after : goal.overflow_sub-after
 overflow_sub-after c =
@@ -35,5 +36,6 @@ returns c =
     let s = state a.self a.room.now in
     let f = fit _ _ _ (sym c.is_sound.ensures ∙ c.if-not-is_sound.false) in
     let live = sym c.has.ensures ∙ c.if-not-has.false in
-    one_less s (held_facts f.held_marks) a.mark _ live c.remove-left.ensures
-    ∙ answered_now a.src.now s (remove_bookmark a.mark) refl f
+    rw c.done.ensures
+    (one_less s (held_facts f.held_marks) a.mark _ live c.remove.ensures
+    ∙ answered_now a.src.now s (remove_bookmark a.mark) refl f)

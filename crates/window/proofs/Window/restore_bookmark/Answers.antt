@@ -11,19 +11,21 @@ use Rattle.window.proofs.Window.restore_bookmark.Goals as goal
 pub returns-then-not-is_sound : goal.returns-then-not-is_sound
 returns-then-not-is_sound c =
     let a = c.args in
-    not_sound a.src.now (state a.self a.room.now) (restore_bookmark a.mark)
-    (sym c.is_sound.ensures ∙ c.if-not-is_sound.true)
+    rw c.«refused».ensures
+    (not_sound a.src.now (state a.self a.room.now) (restore_bookmark a.mark) (sym c.is_sound.ensures ∙ c.if-not-is_sound.true))
 
-pub returns-then-not-has : goal.returns-then-not-has
-returns-then-not-has c =
+pub returns-then-has : goal.returns-then-has
+returns-then-has c =
     let a = c.args in
     let s = state a.self a.room.now in
-    not_restored s a.mark (sym c.has.ensures ∙ c.if-not-has.true)
-    ∙ answered_now a.src.now s (restore_bookmark a.mark) refl (fit _ _ _ (sym c.is_sound.ensures ∙ c.if-not-is_sound.false))
+    rw c.done.ensures
+    (restored s a.mark (sym c.has.ensures ∙ c.if-has.true)
+    ∙ answered_now a.src.now s (restore_bookmark a.mark) refl (fit _ _ _ (sym c.is_sound.ensures ∙ c.if-not-is_sound.false)))
 
-pub returns : goal.returns
-returns c =
+pub returns-else-has : goal.returns-else-has
+returns-else-has c =
     let a = c.args in
     let s = state a.self a.room.now in
-    restored s a.mark (sym c.has.ensures ∙ c.if-not-has.false)
-    ∙ answered_now a.src.now s (restore_bookmark a.mark) refl (fit _ _ _ (sym c.is_sound.ensures ∙ c.if-not-is_sound.false))
+    rw c.refused-else-has.ensures
+    (not_restored s a.mark (sym c.has.ensures ∙ c.if-has.false)
+    ∙ answered_now a.src.now s (restore_bookmark a.mark) refl (fit _ _ _ (sym c.is_sound.ensures ∙ c.if-not-is_sound.false)))
