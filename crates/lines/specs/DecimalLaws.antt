@@ -1,6 +1,6 @@
 -- A number goes on digit by digit, and where a space stands it is what is spelled behind it: one look at the front of the rest.
 -- Assumes nothing.
-use Rattle.std.specs.Prelude.{ℕ, ◌+◌, ◌≤◌, ◌<◌, ◌≡◌, refl, Bool, true, false, cond, ◌&&◌, List, length, get_or, drop, leb, eqb}
+use Rattle.std.specs.Prelude.{ℕ, ◌+◌, ◌≤◌, ◌<◌, ◌≡◌, refl, Bool, true, false, cond, ◌&&◌, Some, None, List, length, get_or, drop, leb, eqb}
 use Rattle.std.proofs.Common.{sym, ap, ◌∙◌, arith, drop_of_length-le, leb-true, ne_eqb}
 use Rattle.std.proofs.lemmas.Bool.{false≢true}
 use Rattle.std.proofs.Math.Numerals.{add-one}
@@ -11,7 +11,7 @@ use Rattle.patterns.specs.Walk.{span}
 use Rattle.patterns.proofs.Walk.{span_yes, span_no, span_over, byte_within}
 use Rattle.tokens.specs.Tokens.{dec}
 use Rattle.lines.specs.declared.decimals.Number.{Number}
-use Rattle.lines.specs.Decimals.{space, grown, number, spelled, starts, behind}
+use Rattle.lines.specs.Decimals.{space, grown, number, spelled, starts, behind, value_or_zero}
 
 -- a digit's value is below ten
 pub digit_least : (b : ℕ) → dec b ≡ true → 48 ≤ b
@@ -69,7 +69,7 @@ starts_within text at e =
     byte_within text at (λ z. let f : eqb 0 space ≡ true = ap (λ b. eqb b space) (sym z) ∙ and_first (eqb (get_or text at 0) space) (dec (get_or text (at + 1) 0)) e in absurd (false≢true f))
 
 -- behind a place where a space stands, or where the text is over, it is what is spelled there
-pub behind_value : (text : List ℕ) (at : ℕ) → (at < length text → eqb (get_or text at 0) space ≡ true) → (behind text at).value ≡ number 0 (drop (at + 1) text)
+pub behind_value : (text : List ℕ) (at : ℕ) → (at < length text → eqb (get_or text at 0) space ≡ true) → value_or_zero (behind text at) ≡ number 0 (drop (at + 1) text)
 behind_value text at e = go (eqb (get_or text at 0) space) (dec (get_or text (at + 1) 0)) digit (λ d. stops text 0 (at + 1) (λ l. d))
   where
     digit : dec (get_or text (at + 1) 0) ≡ true → eqb (get_or text at 0) space ≡ true
@@ -78,7 +78,7 @@ behind_value text at e = go (eqb (get_or text at 0) space) (dec (get_or text (at
         e (omega arith)
 
     go : (a b : Bool) → (b ≡ true → a ≡ true) → (b ≡ false → 0 ≡ number 0 (drop (at + 1) text))
-        → (cond (a && b) (spelled text (at + 1)) (record { value = 0; end = at })).value ≡ number 0 (drop (at + 1) text)
+        → value_or_zero (cond (a && b) (Some (spelled text (at + 1))) None) ≡ number 0 (drop (at + 1) text)
     go true true p q = refl
     go true false p q = q refl
     go false true p q = absurd (false≢true (p refl))
@@ -86,8 +86,8 @@ behind_value text at e = go (eqb (get_or text at 0) space) (dec (get_or text (at
 
 -- the number behind a place, by that test
 module _ (text : List ℕ) (at : ℕ) {t : Bool} (e : t ≡ starts text at) where
-  pub behind_there : {n : Number} → t ≡ true → n ≡ spelled text (at + 1) → n ≡ behind text at
+  pub behind_there : {n : Number} → t ≡ true → n ≡ spelled text (at + 1) → Some n ≡ behind text at
   behind_there h f = rw (← e, h, f)
 
-  pub behind_nothing : t ≡ false → ◌≡◌ {A = Number} (record { value = 0; end = at }) (behind text at)
+  pub behind_nothing : t ≡ false → None ≡ behind text at
   behind_nothing h = rw (← e, h)

@@ -1,5 +1,5 @@
 -- A number in decimal: its digits, and a space before them. Assumes nothing.
-use Rattle.std.specs.Prelude.{ℕ, min, ◌+◌, ◌-◌, ◌*◌, Bool, cond, ◌&&◌, List, [], ◌∷◌, get_or, drop, eqb}
+use Rattle.std.specs.Prelude.{ℕ, min, ◌+◌, ◌-◌, ◌*◌, Option, Some, None, Bool, cond, ◌&&◌, List, [], ◌∷◌, get_or, drop, eqb}
 use Rattle.patterns.specs.Walk.{span}
 use Rattle.tokens.specs.Tokens.{dec}
 use Rattle.lines.specs.declared.decimals.Number.{Number}
@@ -27,5 +27,10 @@ abbrev pub starts : List ℕ → ℕ → Bool
 starts text at = eqb (get_or text at 0) space && dec (get_or text (at + 1) 0)
 
 -- The number behind a space at a place, or nothing.
-abbrev pub behind : List ℕ → ℕ → Number
-behind text at = cond (starts text at) (spelled text (at + 1)) (record { value = 0; end = at })
+abbrev pub behind : List ℕ → ℕ → Option Number
+behind text at = cond (starts text at) (Some (spelled text (at + 1))) None
+
+-- Its value alone; 0 stands for nothing.
+abbrev pub value_or_zero : Option Number → ℕ
+value_or_zero None = 0
+value_or_zero (Some n) = n.value

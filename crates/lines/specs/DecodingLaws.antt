@@ -1,20 +1,19 @@
 -- Decoding, pair by pair: what was decoded stands before the place, and the rest from there on decodes as it did.
 -- By one look at the front of the rest for each pair. Assumes nothing.
-use Rattle.std.specs.Prelude.{ℕ, zero, suc, ◌+◌, ◌-◌, ◌*◌, ◌≤◌, ◌<◌, ◌≡◌, refl, List, [], ◌∷◌, ◌++◌, length, set, take, drop}
-use Rattle.std.proofs.Common.{sym, ap, ◌∙◌, append_assoc, append-nil, arith, add-one, length-set, take-append-drop, drop-drop, drop-set-lt, take-suc-set, length-take-le, le-leb}
+use Rattle.std.specs.Prelude.{ℕ, zero, suc, ◌+◌, ◌-◌, ◌*◌, ◌≤◌, ◌<◌, ◌≡◌, refl, Some, None, List, [], ◌∷◌, ◌++◌, length, set, take, drop}
+use Rattle.std.proofs.Common.{sym, ap, ◌∙◌, append_assoc, append-nil, arith, add-one, length-set, take-append-drop, drop-drop, drop-set-lt, take-suc-set, length-take-le}
 use Rattle.std.proofs.Math.Nat.{sub-zero}
-use Rattle.std.proofs.lemmas.Bool.{lt-leb}
 use Rattle.lines.specs.Hex.{pair, decoded, Decodes}
 
 -- the rest's first byte, and its end
-decoded_more : (n : ℕ) (xs : List ℕ) → pair xs ≤ 255 → decoded (suc n) xs ≡ pair xs ∷ decoded n (drop 2 xs)
+decoded_more : (n : ℕ) (xs : List ℕ) (v : ℕ) → Some v ≡ pair xs → decoded (suc n) xs ≡ v ∷ decoded n (drop 2 xs)
 unfolding decoded
-decoded_more n xs h = rw (le-leb (pair xs) 255 h)
+decoded_more n xs v h = rw (← h)
 
-decoded_none : (n : ℕ) (xs : List ℕ) → 255 < pair xs → decoded n xs ≡ []
+decoded_none : (n : ℕ) (xs : List ℕ) → None ≡ pair xs → decoded n xs ≡ []
 unfolding decoded
 decoded_none zero xs h = refl
-decoded_none (suc n) xs h = rw (lt-leb (pair xs) 255 h)
+decoded_none (suc n) xs h = rw (← h)
 
 decoded_full : (n : ℕ) (xs : List ℕ) → n ≡ 0 → decoded n xs ≡ []
 unfolding decoded
@@ -33,15 +32,14 @@ decoding_start text from room =
     record { so_far = rw (sub-zero (length room)); placed = omega arith; same = refl; behind = refl; within = omega arith }
 
 module _ {text : List ℕ} {from : ℕ} {room out : List ℕ} {len end : ℕ} (d : Decoding text from room out len end) where
-  pub decoding_on : (v : ℕ) → v ≡ pair (drop end text) → v ≤ 255 → len < length out → Decoding text from room (set out len v) (len + 1) (end + 2)
-  decoding_on v e h l =
+  pub decoding_on : (v : ℕ) → Some v ≡ pair (drop end text) → len < length out → Decoding text from room (set out len v) (len + 1) (end + 2)
+  decoding_on v e l =
       let k : length room - len ≡ suc (length room - (len + 1)) = omega (arith, d.same) in
       let front : take (len + 1) (set out len v) ≡ take len out ++ (v ∷ []) = rw add-one (take-suc-set out len v l) in
       let rest = decoded (length room - (len + 1)) (drop (end + 2) text) in
       let next : decoded (length room - len) (drop end text) ≡ v ∷ rest =
       ap (λ (n : ℕ). decoded n (drop end text)) k
-      ∙ decoded_more (length room - (len + 1)) (drop end text) (omega (arith, e))
-      ∙ ap (λ (b : ℕ). b ∷ decoded (length room - (len + 1)) (drop 2 (drop end text))) (sym e)
+      ∙ decoded_more (length room - (len + 1)) (drop end text) v e
       ∙ ap (λ (xs : List ℕ). v ∷ decoded (length room - (len + 1)) xs) (drop-drop 2 end text) in
       record {
         so_far =
@@ -71,8 +69,8 @@ module _ {text : List ℕ} {from : ℕ} {room out : List ℕ} {len end : ℕ} (d
             ∙ ap (λ (n : ℕ). decoded (length room) (drop from text) ++ drop n room) (sym l);
       }
 
-  pub decoding_stops : (v : ℕ) → v ≡ pair (drop end text) → 255 < v → Decodes text from room out len end
-  decoding_stops v e h = ends (decoded_none (length room - len) (drop end text) (omega (arith, e)))
+  pub decoding_stops : None ≡ pair (drop end text) → Decodes text from room out len end
+  decoding_stops e = ends (decoded_none (length room - len) (drop end text) e)
 
   pub decoding_over : length out ≤ len → Decodes text from room out len end
   decoding_over h = ends (decoded_full (length room - len) (drop end text) (omega (arith, d.same)))

@@ -1,26 +1,33 @@
 -- Bytes in hexadecimal: two digits each, 0 to 9 and a to f. Assumes nothing.
-use Rattle.std.specs.Prelude.{ℕ, zero, suc, ◌+◌, ◌-◌, ◌*◌, cond, ◌≡◌, List, [], ◌∷◌, ◌++◌, length, drop, leb}
+use Rattle.std.specs.Prelude.{ℕ, zero, suc, ◌+◌, ◌-◌, ◌*◌, cond, ◌≡◌, Option, Some, None, List, [], ◌∷◌, ◌++◌, length, drop}
 use Rattle.patterns.specs.Utf8.{between}
 use Rattle.tokens.specs.Tokens.{dec}
 
--- The value of a digit; 16 stands for a byte that is none.
-abbrev pub hex_value : ℕ → ℕ
-hex_value b = cond (dec b) (b - 48) (cond (between 97 102 b) (b - 97 + 10) 16)
+-- The value of a digit, if the byte is one.
+abbrev pub hex_value : ℕ → Option ℕ
+hex_value b = cond (dec b) (Some (b - 48)) (cond (between 97 102 b) (Some (b - 97 + 10)) None)
 
--- The byte of two digits' values, and of the two digits at the front; 256 stands for none.
-abbrev pub byte_of : ℕ → ℕ → ℕ
-byte_of h l = cond (leb h 15) (cond (leb l 15) (h * 16 + l) 256) 256
+-- The byte of two digits' values, and of the two digits at the front; nothing where one is missing.
+abbrev pub byte_of : Option ℕ → Option ℕ → Option ℕ
+byte_of None l = None
+byte_of (Some h) None = None
+byte_of (Some h) (Some l) = Some (h * 16 + l)
 
-unfoldable pub pair : List ℕ → ℕ
-pair [] = 256
-pair (h ∷ []) = 256
+unfoldable pub pair : List ℕ → Option ℕ
+pair [] = None
+pair (h ∷ []) = None
 pair (h ∷ l ∷ xs) = byte_of (hex_value h) (hex_value l)
+
+-- a byte before others, if there is one
+abbrev pub and_then : Option ℕ → List ℕ → List ℕ
+and_then None bs = []
+and_then (Some b) bs = b ∷ bs
 
 -- The bytes at the front, up to n of them.
 unfoldable pub decoded : ℕ → List ℕ → List ℕ
 unfolding pair
 decoded zero xs = []
-decoded (suc n) xs = cond (leb (pair xs) 255) (pair xs ∷ decoded n (drop 2 xs)) []
+decoded (suc n) xs = and_then (pair xs) (decoded n (drop 2 xs))
 
 -- They stand at the front of a room, behind them the room is as it was; how many they are, and the place behind their digits.
 pub record Decodes (text : List ℕ) (from : ℕ) (room after : List ℕ) (len end : ℕ) : Type 0 where

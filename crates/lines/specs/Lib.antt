@@ -2,6 +2,7 @@
 pub mod Lines
 pub mod LineLaws
 pub mod Examples
+pub mod Split
 pub mod Decimals
 pub mod DecimalLaws
 pub mod DecimalExamples

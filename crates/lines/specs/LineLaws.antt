@@ -8,8 +8,7 @@ use Rattle.std.proofs.Math.ListN.{drop}
 use Rattle.patterns.proofs.Bools.{by_test}
 use Rattle.patterns.specs.Walk.{span}
 use Rattle.patterns.proofs.Walk.{span_within, span_stops, span_over}
-use Rattle.lines.specs.declared.decimals.Number.{Number}
-use Rattle.lines.specs.Decimals.{space, number, behind}
+use Rattle.lines.specs.Decimals.{space, number, behind, value_or_zero}
 use Rattle.lines.specs.DecimalLaws.{behind_value}
 use Rattle.lines.specs.declared.Asked.{Asked}
 use Rattle.lines.specs.Lines.{other_than, next_byte, behind_space, asked}
@@ -42,13 +41,13 @@ module _ (line : List ℕ) (from : ℕ) {at : ℕ} (e : at ≡ next_byte line fr
       go true p = refl
       go false p = absurd (true≢false p)
 
-  number_next : {n : Number} → n ≡ behind line at → n.value ≡ number 0 (behind_space (drop from line))
-  number_next f = ap (λ (n : Number). n.value) f ∙ behind_value line at there ∙ ap (number 0) behind_next
+  number_next : {n : ℕ} → n ≡ value_or_zero (behind line at) → n ≡ number 0 (behind_space (drop from line))
+  number_next f = f ∙ behind_value line at there ∙ ap (number 0) behind_next
 
 -- what a line asks for, by the places of its first three spaces
-pub asked_by : (line : List ℕ) {l p q r : ℕ} {x y z : Number} → p ≡ next_byte line 0 space → q ≡ next_byte line (p + 1) space
-    → r ≡ next_byte line (q + 1) space → l ≡ get_or line 0 0 → x ≡ behind line p → y ≡ behind line q → z ≡ behind line r
-    → ◌≡◌ {A = Asked} (record { letter = l; first = x.value; second = y.value; third = z.value }) (asked line)
+pub asked_by : (line : List ℕ) {l p q r x y z : ℕ} → p ≡ next_byte line 0 space → q ≡ next_byte line (p + 1) space
+    → r ≡ next_byte line (q + 1) space → l ≡ get_or line 0 0 → x ≡ value_or_zero (behind line p) → y ≡ value_or_zero (behind line q) → z ≡ value_or_zero (behind line r)
+    → ◌≡◌ {A = Asked} (record { letter = l; first = x; second = y; third = z }) (asked line)
 unfolding asked
 asked_by line {p = p} {q = q} e f g el ex ey ez =
     let first : drop (p + 1) line ≡ behind_space line = behind_next line 0 e in

@@ -14,5 +14,4 @@ overflow_add-second c = omega (arith, next_behind _ _ space c.next_byte-second.e
 pub returns : goal.returns
 returns c =
     asked_by _ c.next_byte-first.ensures c.next_byte-second.ensures c.next_byte-third.ensures
-    c.byte_at.ensures.is c.number_behind.ensures c.number_behind-2.ensures
-    c.number_behind-3.ensures
+    c.byte_at.ensures.is c.value_behind.ensures c.value_behind-2.ensures c.value_behind-3.ensures

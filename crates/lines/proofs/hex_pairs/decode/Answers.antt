@@ -1,5 +1,4 @@
-use Rattle.std.proofs.Common.{◌≤◌, arith, drop}
-use Rattle.lines.specs.Hex.{pair}
+use Rattle.std.proofs.Common.{◌≡◌, length, arith}
 use Rattle.lines.specs.HexLaws.{pair_inside}
 use Rattle.lines.specs.DecodingLaws.{decoding_start, decoding_on, decoding_stops, decoding_over}
 use Rattle.lines.proofs.hex_pairs.decode.Goals as goal
@@ -7,18 +6,14 @@ use Rattle.lines.proofs.hex_pairs.decode.Goals as goal
 pub loop-len-init : goal.loop-len-init
 loop-len-init c = decoding_start _ _ _
 
-pub returns-then-byte-gt255 : goal.returns-then-byte-gt255
-returns-then-byte-gt255 c = decoding_stops c.loop-len.invariant _ c.pair_at-byte.ensures c.if-byte-gt255.true
+pub returns-in_default : goal.returns-in_default
+returns-in_default c = decoding_stops c.loop-len.invariant c.in_default.ensures
 
 pub overflow_add-end : goal.overflow_add-end
-overflow_add-end c =
-    let text = c.args.text.now in
-    let end = c.loop-len.end in
-    let spelled : pair (drop end text) ≤ 255 = omega (arith, c.pair_at-byte.ensures) in
-    omega (arith, pair_inside text end spelled)
+overflow_add-end c = omega (arith, pair_inside c.args.text.now c.loop-len.end c.in-Some.ensures)
 
 pub loop-len-preserved : goal.loop-len-preserved
-loop-len-preserved c = decoding_on c.loop-len.invariant _ c.pair_at-byte.ensures c.if-byte-gt255.false c.loop-len-test.true
+loop-len-preserved c = decoding_on c.loop-len.invariant _ c.in-Some.ensures (omega arith)
 
 pub returns : goal.returns
-returns c = decoding_over c.loop-len.invariant c.loop-len-test.false
+returns c = let all : length c.loop-len.out ≡ c.loop-len.len = omega arith in rw all (decoding_over c.loop-len.invariant (omega arith))
