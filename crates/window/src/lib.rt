@@ -18,7 +18,7 @@ use tokens::{Mode, Offset, TokenIndex};
 // Where the window stands. The first `live` bookmarks are in use, in order, the others 0; `bytes` and `slots` are the source's length
 // and the room's slots at opening; `reader` scans on behind the last of the `fetched` tokens; `current` is the next one to be taken.
 // It goes through the calls by value, its bookmarks an array and a count: document 01's form.
-#[derive(Clone, Copy)]
+#[derive(Clone, Copy, Debug, PartialEq, Eq)]
 pub struct Window {
     pub bookmarks: Bookmarks,
     pub live: u32,
