@@ -1,9 +1,6 @@
--- What the calls on bookmarks leave: a stream with so many bookmarks; and a refused bookmark. Assumes nothing.
+-- What the calls on bookmarks leave: a stream with so many bookmarks. Assumes nothing.
 use Rattle.std.specs.Prelude.{ℕ}
-use Rattle.refusals.specs.declared.Refusal.{Refusal}
 use Rattle.events.specs.declared.Stream.{Stream}
-use Rattle.events.specs.declared.PositionAnswer.TheVariants as of_position
-use Rattle.events.specs.declared.PositionGiven.{PositionGiven}
 use Rattle.events.specs.Stream.{State, state}
 
 abbrev pub marking : ℕ → Stream → Stream
@@ -19,9 +16,6 @@ marking n t =
       gone = t.gone;
       popped = t.popped;
     }
-
-abbrev pub not_marked : Refusal → Stream → PositionGiven
-not_marked n t = record { answer = of_position.Refused n; stream = t }
 
 -- Stream and rooms after it.
 abbrev pub marks_left : ℕ → State → State

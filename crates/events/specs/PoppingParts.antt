@@ -1,14 +1,11 @@
--- What a pop leaves: a stream without its first event, which is remembered where it is a token; and a refused pop. Assumes nothing.
+-- What a pop leaves: a stream without its first event, which is remembered where it is a token. Assumes nothing.
 use Rattle.std.specs.Prelude.{◌-◌, true, cond, eqb}
 use Rattle.rooms.specs.declared.Slot.{Slot}
-use Rattle.refusals.specs.declared.Refusal.{Refusal}
 use Rattle.event_record.specs.declared.Span.{Span}
 use Rattle.event_record.specs.declared.Event.{Event}
 use Rattle.event_record.specs.Record.{token_tag}
 use Rattle.event_room.specs.Room.{read}
 use Rattle.events.specs.declared.Stream.{Stream}
-use Rattle.events.specs.declared.EventAnswer.TheVariants as of_event
-use Rattle.events.specs.declared.EventGiven.{EventGiven}
 use Rattle.events.specs.Stream.{State, state}
 use Rattle.events.specs.Parts.{slot_at}
 
@@ -29,9 +26,6 @@ passing f x t =
 -- The last token once an event is popped.
 abbrev pub gone_after : Event → Span → Span
 gone_after y x = cond (eqb y.tag token_tag) y.span x
-
-abbrev pub not_popped : Refusal → Stream → EventGiven
-not_popped n t = record { answer = of_event.Refused n; stream = t }
 
 -- The first event; stream and rooms without it.
 abbrev pub first_of : State → Event

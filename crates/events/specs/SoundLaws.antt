@@ -1,12 +1,15 @@
 -- The tests of refusal 24 as facts, and back; and that 24 comes before all.
 -- Assumes nothing.
-use Rattle.std.specs.Prelude.{ℕ, ◌+◌, ◌≤◌, ◌<◌, ◌≡◌, Bool, false, ◌||◌, length, eqb}
+use Rattle.std.specs.Prelude.{ℕ, ◌+◌, ◌≤◌, ◌<◌, ◌≡◌, refl, Bool, false, ◌||◌, length, eqb}
 use Rattle.std.proofs.Common.{sym, ◌∙◌, arith}
 use Rattle.std.proofs.Math.Bool.{true}
 use Rattle.std.proofs.Math.Dec.{ltb}
 use borrow.Author.Tests.{ltb-true, lt-ltb, leb-true, le-leb, eqb-true, eqb-false, eq-eqb, ne_eqb}
 use Rattle.patterns.proofs.Bools.{and_both, and_first, and_second, by_test}
 use Rattle.patterns.proofs.Lists.{each_right}
+use Rattle.refusals.specs.declared.Refusal.{Refusal}
+use Rattle.refusals.specs.declared.Refusal.TheVariants.{NotAsOpened}
+use Rattle.refusals.specs.Refusals.{number_of}
 use Rattle.event_record.specs.Record.{Call, refused, Reply, reply, begin_tag}
 use Rattle.event_room.specs.Room.{slots_in}
 use Rattle.events.specs.Stream.{State, inner_place, begins, tests, sound, answered, step}
@@ -21,6 +24,10 @@ pub record Fit (s : State) : Type 0 where
   pub nodes : s.stream.opened ≤ s.stream.places
   pub inner_inside : 0 < s.stream.opened → inner_place s < s.stream.count
   pub inner_begins : 0 < s.stream.opened → (event_at s.stream s.room (inner_place s)).tag ≡ begin_tag
+
+-- and of one that is refused first of all
+abbrev pub Unfit : State → Refusal → Type 0
+Unfit s n = (n ≡ NotAsOpened) × (sound s ≡ false)
 
 -- the test of the last open place
 abbrev pub begun : State → Bool
@@ -71,3 +78,10 @@ module _ (s : State) where
 
   pub when_sound : (c : Call) {b : Bool} {x : Reply State} → b ≡ sound s → b ≡ true → (Fit s → x ≡ answered c s) → x ≡ step c s
   when_sound c p e h = passed_on c p e (h (fit p e))
+
+  -- so it comes before all in the code
+  pub refused_first : (c : Call) {n : Refusal} → Unfit s n → reply (refused (number_of n)) s ≡ step c s
+  refused_first c u = rw u.0 (not_sound c refl u.1)
+
+  pub when_fit : (c : Call) {x : Reply State} → Fit s → x ≡ answered c s → x ≡ step c s
+  when_fit c k h = h ∙ answered_now c (fit_sound k)

@@ -1,24 +1,19 @@
 -- The event stream's calls over the stream's own record and the two rooms that are lent. What they answer and leave is said of a plain
 -- list (event_record); here is how record and rooms hold that list, and when a call is refused by 24. Assumes nothing.
-use Rattle.std.specs.Prelude.{ℕ, ◌+◌, ◌-◌, Bool, false, not, ◌&&◌, ◌||◌, List, [], ◌∷◌, length, get_or, take, eqb, leb, ltb}
+use Rattle.std.specs.Prelude.{ℕ, ◌+◌, ◌-◌, Bool, false, not, ◌&&◌, ◌||◌, List, [], ◌∷◌, length, get_or, take, eqb, leb, ltb, Option, Some, None, Result, Ok, Err}
 use Rattle.std.proofs.lemmas.List.Edits.{sets}
 use Rattle.patterns.specs.Lists.{each}
 use Rattle.rooms.specs.declared.Slot.{Slot}
-use Rattle.refusals.specs.declared.DoneAnswer.{DoneAnswer}
-use Rattle.refusals.specs.declared.DoneAnswer.TheVariants as of_done
+use Rattle.refusals.specs.declared.Refusal.{Refusal}
+use Rattle.refusals.specs.declared.Given.{Given}
 use Rattle.refusals.specs.Refusals.{number_of}
 use Rattle.refusals.specs.Calls.{unless}
 use Rattle.event_record.specs.Record.{Call, Answer, done, none, position, event, refused, Reply, reply, Record}
+use Rattle.event_record.specs.declared.Position.{Position}
+use Rattle.event_record.specs.declared.Event.{Event}
 use Rattle.event_record.specs.Record.{span, begin_tag, grounds, taken}
 use Rattle.event_room.specs.Room.{slots_in, slot_of, read, listed, written}
 use Rattle.events.specs.declared.Stream.{Stream}
-use Rattle.events.specs.declared.PositionAnswer.{PositionAnswer}
-use Rattle.events.specs.declared.PositionAnswer.TheVariants as of_position
-use Rattle.events.specs.declared.EventAnswer.{EventAnswer}
-use Rattle.events.specs.declared.EventAnswer.TheVariants as of_event
-use Rattle.events.specs.declared.DoneGiven.{DoneGiven}
-use Rattle.events.specs.declared.PositionGiven.{PositionGiven}
-use Rattle.events.specs.declared.EventGiven.{EventGiven}
 
 -- The stream's record, the numbers of the event slots, and those of the open places.
 pub record State : Type 0 where
@@ -120,24 +115,24 @@ unfolding sound answered
 step c s = unless refused ((not (sound s), 24) ∷ []) s (answered c s)
 
 -- The code's answers in document 01's values, with the stream given back and the rooms.
-abbrev pub done_told : DoneAnswer → Answer
-done_told of_done.Done = done
-done_told (of_done.Refused n) = refused (number_of n)
+abbrev pub done_told : Result Unit Refusal → Answer
+done_told (Ok u) = done
+done_told (Err n) = refused (number_of n)
 
-abbrev pub position_told : PositionAnswer → Answer
-position_told (of_position.Position p) = position p
-position_told (of_position.Refused n) = refused (number_of n)
+abbrev pub position_told : Result Position Refusal → Answer
+position_told (Ok p) = position p
+position_told (Err n) = refused (number_of n)
 
-abbrev pub event_told : EventAnswer → Answer
-event_told (of_event.Event y) = event y
-event_told of_event.None = none
-event_told (of_event.Refused n) = refused (number_of n)
+abbrev pub event_told : Result (Option Event) Refusal → Answer
+event_told (Ok (Some y)) = event y
+event_told (Ok None) = none
+event_told (Err n) = refused (number_of n)
 
-abbrev pub done_reply : DoneGiven → List ℕ → List ℕ → Reply State
-done_reply g room opens = reply (done_told g.answer) (state g.stream room opens)
+abbrev pub done_reply : Given Unit Stream → List ℕ → List ℕ → Reply State
+done_reply g room opens = reply (done_told g.answer) (state g.after room opens)
 
-abbrev pub position_reply : PositionGiven → List ℕ → List ℕ → Reply State
-position_reply g room opens = reply (position_told g.answer) (state g.stream room opens)
+abbrev pub position_reply : Given Position Stream → List ℕ → List ℕ → Reply State
+position_reply g room opens = reply (position_told g.answer) (state g.after room opens)
 
-abbrev pub event_reply : EventGiven → List ℕ → List ℕ → Reply State
-event_reply g room opens = reply (event_told g.answer) (state g.stream room opens)
+abbrev pub event_reply : Given (Option Event) Stream → List ℕ → List ℕ → Reply State
+event_reply g room opens = reply (event_told g.answer) (state g.after room opens)

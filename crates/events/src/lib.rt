@@ -2,10 +2,11 @@
 // and the steps that more than one call is made of; each group of calls has a module.
 #![tactic(auto)]
 
-ghost use Rattle.std.specs.Prelude.{◌+◌, ◌-◌, ◌≡◌, length};
+ghost use Rattle.std.specs.Prelude.{◌+◌, ◌-◌, ◌≡◌, length, OnOk, IfErr};
 ghost use Rattle.event_room.specs.Room.{slots_in};
-ghost use Rattle.events.specs.Stream.{fresh};
-ghost use Rattle.events.specs.Parts.{counting, refused_with, done_with};
+ghost use Rattle.events.specs.Stream.{state, fresh};
+ghost use Rattle.events.specs.Parts.{counting, given};
+ghost use Rattle.events.specs.SoundLaws.{Fit, Unfit};
 
 mod balance;
 mod closing;
@@ -17,8 +18,8 @@ mod reading;
 mod tests;
 mod truncating;
 
-use event_record::{Event, Position, Span};
-use refusals::{DoneAnswer, Refusal};
+use event_record::Span;
+use refusals::Refusal;
 use rooms::Slot;
 use tokens::Offset;
 
@@ -44,41 +45,8 @@ pub struct Stream {
     pub popped: bool,
 }
 
-// What bookmark answers.
-#[derive(Clone, Copy)]
-pub enum PositionAnswer {
-    Position(Position),
-    Refused(Refusal),
-}
-
-// What pop answers: an event; none, the stream being empty; or a refusal.
-#[derive(Clone, Copy)]
-pub enum EventAnswer {
-    Event(Event),
-    None,
-    Refused(Refusal),
-}
-
-// What a call gives that answers done, and the stream after it. A refused call gives back the stream as it was, here and below.
-#[derive(Clone, Copy)]
-pub struct DoneGiven {
-    pub answer: DoneAnswer,
-    pub stream: Stream,
-}
-
-// What bookmark gives.
-#[derive(Clone, Copy)]
-pub struct PositionGiven {
-    pub answer: PositionAnswer,
-    pub stream: Stream,
-}
-
-// What pop gives.
-#[derive(Clone, Copy)]
-pub struct EventGiven {
-    pub answer: EventAnswer,
-    pub stream: Stream,
-}
+// What a call gives: its answer, and the stream after it. A refused call gives back the stream as it was.
+pub type Given<T> = refusals::Given<T, Stream>;
 
 impl Stream {
     // An empty stream over the two rooms.
@@ -102,27 +70,37 @@ impl Stream {
         }
     }
 
-    // Refused: the stream stays.
-    fn refused(self, refusal: Refusal) -> DoneGiven
-        ensures { result ≡ refused_with refusal self }
+    // Refused where the stream is not one over these rooms: the test of 24, which comes before all others.
+    fn check(self, room: &[u32], opens: &[usize]) -> Result<(), Refusal>
+        ensures fit { OnOk result (Fit (state self room.now opens.now)) }
+        ensures refused { IfErr result (Unfit (state self room.now opens.now)) }
     {
-        DoneGiven {
-            answer: DoneAnswer::Refused(refusal),
-            stream: self,
+        if self.is_sound(room, opens) {
+            Ok(())
+        } else {
+            Err(Refusal::NotAsOpened)
         }
     }
 
-    // Done: the stream has other numbers of events and of open nodes, and another last token.
-    fn counted(self, count: usize, opened: usize, last: Span) -> DoneGiven
-        ensures { result ≡ done_with (counting count opened last self) }
+    // What a call gives that comes to this: a value with the stream after it; or a refusal, where the stream stays.
+    fn given<T>(self, came: Result<(T, Stream), Refusal>) -> Given<T>
+        ensures { result ≡ given self came }
     {
-        let mut changed = self;
-        changed.count = count;
-        changed.opened = opened;
-        changed.last = last;
-        DoneGiven {
-            answer: DoneAnswer::Done,
-            stream: changed,
+        match came {
+            Ok((value, after)) => Given::done(value, after),
+            Err(refusal) => Given::refused(refusal, self),
+        }
+    }
+
+    // The stream with other numbers of events and of open nodes, and another last token.
+    fn counted(self, count: usize, opened: usize, last: Span) -> Stream
+        ensures { result ≡ counting count opened last self }
+    {
+        Stream {
+            count,
+            opened,
+            last,
+            ..self
         }
     }
 

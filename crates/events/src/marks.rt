@@ -1,83 +1,58 @@
 // The event stream's calls on bookmarks: one made, one removed.
-ghost use Rattle.std.specs.Prelude.{ℕ, ◌≡◌, List};
+ghost use Rattle.std.specs.Prelude.{◌≡◌};
 ghost use Rattle.event_record.specs.Record.{bookmark as bookmark-call, remove_bookmark};
-ghost use Rattle.events.specs.Stream.{state, answered, step, done_reply, position_reply};
-ghost use Rattle.events.specs.SoundLaws.{Fit};
-ghost use Rattle.events.specs.MarkingParts.{marking, not_marked};
+ghost use Rattle.events.specs.Stream.{state, step, done_reply, position_reply};
+ghost use Rattle.events.specs.Parts.{given};
+ghost use Rattle.events.specs.MarkingParts.{marking};
 
-use crate::{BOOKMARKS, DoneGiven, PositionAnswer, PositionGiven, Stream};
+use crate::{BOOKMARKS, Given, Stream};
 use event_record::Position;
-use refusals::{DoneAnswer, Refusal};
+use refusals::Refusal;
 
 impl Stream {
     // A bookmark of the end of the stream.
-    pub fn bookmark(self, room: &[u32], opens: &[usize]) -> PositionGiven
+    pub fn bookmark(self, room: &[u32], opens: &[usize]) -> Given<Position>
         ensures { position_reply result room.now opens.now ≡ step bookmark-call (state self room.now opens.now) }
     {
-        if self.is_sound(room, opens) {
-            self.mark_end()
-        } else {
-            self.not_marked(Refusal::NotAsOpened)
-        }
+        self.given(self.mark_end(room, opens))
     }
 
     // Drops a bookmark.
-    pub fn remove_bookmark(self, room: &[u32], opens: &[usize], mark: Position) -> DoneGiven
+    pub fn remove_bookmark(self, room: &[u32], opens: &[usize], mark: Position) -> Given<()>
         ensures { done_reply result room.now opens.now ≡ step (remove_bookmark mark) (state self room.now opens.now) }
     {
-        if self.is_sound(room, opens) {
-            self.unmark(mark)
-        } else {
-            self.refused(Refusal::NotAsOpened)
-        }
+        self.given(self.unmark(room, opens, mark))
     }
 
-    // One bookmark more, where there are not too many. Here and below the rooms, which are not read, are any with which the stream is one.
-    fn mark_end(self) -> PositionGiven
-        ensures { (room opens : List ℕ) → Fit (state self room opens) → position_reply result room opens ≡ answered bookmark-call (state self room opens) }
+    // One bookmark more, where there are not too many.
+    fn mark_end(self, room: &[u32], opens: &[usize]) -> Result<(Position, Stream), Refusal>
+        ensures { position_reply (given self result) room.now opens.now ≡ step bookmark-call (state self room.now opens.now) }
     {
+        self.check(room, opens)?;
         if BOOKMARKS <= self.bookmarks {
-            return self.not_marked(Refusal::TooManyBookmarks);
+            return Err(Refusal::TooManyBookmarks);
         }
-        PositionGiven {
-            answer: PositionAnswer::Position(Position(self.count)),
-            stream: self.marked(self.bookmarks + 1),
-        }
+        Ok((Position(self.count), self.marked(self.bookmarks + 1)))
     }
 
     // One bookmark less, where one lives and the position is not past the end.
-    fn unmark(self, mark: Position) -> DoneGiven
-        ensures { (room opens : List ℕ) → Fit (state self room opens) → done_reply result room opens ≡ answered (remove_bookmark mark) (state self room opens) }
+    fn unmark(self, room: &[u32], opens: &[usize], mark: Position) -> Result<((), Stream), Refusal>
+        ensures { done_reply (given self result) room.now opens.now ≡ step (remove_bookmark mark) (state self room.now opens.now) }
     {
-        let live = self.bookmarks;
-        if live == 0 {
-            return self.refused(Refusal::NotLive);
+        self.check(room, opens)?;
+        if self.bookmarks == 0 {
+            return Err(Refusal::NotLive);
         }
         if self.count < mark.0 {
-            return self.refused(Refusal::PastTheEnd);
+            return Err(Refusal::PastTheEnd);
         }
-        DoneGiven {
-            answer: DoneAnswer::Done,
-            stream: self.marked(live - 1),
-        }
+        Ok(((), self.marked(self.bookmarks - 1)))
     }
 
     // The stream with so many bookmarks.
     fn marked(self, bookmarks: u32) -> Stream
         ensures { result ≡ marking bookmarks self }
     {
-        let mut changed = self;
-        changed.bookmarks = bookmarks;
-        changed
-    }
-
-    // No bookmark: the stream stays.
-    fn not_marked(self, refusal: Refusal) -> PositionGiven
-        ensures { result ≡ not_marked refusal self }
-    {
-        PositionGiven {
-            answer: PositionAnswer::Refused(refusal),
-            stream: self,
-        }
+        Stream { bookmarks, ..self }
     }
 }

@@ -1,29 +1,25 @@
 // The event stream's calls that push: a token, an error.
-ghost use Rattle.std.specs.Prelude.{ℕ, ◌≡◌, List};
+ghost use Rattle.std.specs.Prelude.{◌≡◌};
 ghost use Rattle.event_record.specs.Record.{push_token, push_error};
 ghost use Rattle.events.specs.Stream.{state, step, done_reply};
-ghost use Rattle.events.specs.SoundLaws.{Fit};
-ghost use Rattle.events.specs.PushingParts.{pushes};
+ghost use Rattle.events.specs.Parts.{given};
+ghost use Rattle.events.specs.PushingParts.{pushes_if_sound};
 
-use crate::{DoneGiven, SPAN_LIMIT, Stream};
+use crate::{Given, SPAN_LIMIT, Stream};
 use event_record::{ERROR, Event, Position, Span, TOKEN};
 use refusals::Refusal;
 
 impl Stream {
     // A token, which is the last one then.
-    pub fn push_token(self, room: &mut [u32], opens: &[usize], kind: u16, span: Span) -> DoneGiven
+    pub fn push_token(self, room: &mut [u32], opens: &[usize], kind: u16, span: Span) -> Given<()>
         ensures { done_reply result room.new opens.now ≡ step (push_token kind span) (state self room.old opens.now) }
     {
-        if self.is_sound(&*room, opens) {
-            let event = Event {
-                tag: TOKEN,
-                kind: kind as u32,
-                span,
-            };
-            self.push(room, event, span)
-        } else {
-            self.refused(Refusal::NotAsOpened)
-        }
+        let event = Event {
+            tag: TOKEN,
+            kind: u32::from(kind),
+            span,
+        };
+        self.given(self.push(room, opens, event, span))
     }
 
     // An error with its message.
@@ -33,35 +29,36 @@ impl Stream {
         opens: &[usize],
         message: u16,
         span: Span,
-    ) -> DoneGiven
+    ) -> Given<()>
         ensures { done_reply result room.new opens.now ≡ step (push_error message span) (state self room.old opens.now) }
     {
-        if self.is_sound(&*room, opens) {
-            let event = Event {
-                tag: ERROR,
-                kind: message as u32,
-                span,
-            };
-            self.push(room, event, self.last)
-        } else {
-            self.refused(Refusal::NotAsOpened)
-        }
+        let event = Event {
+            tag: ERROR,
+            kind: u32::from(message),
+            span,
+        };
+        self.given(self.push(room, opens, event, self.last))
     }
 
-    // Pushes an event, behind which the last token is `last`. The open places, which it neither reads nor changes, are any with which the
-    // stream is one.
-    fn push(self, room: &mut [u32], event: Event, last: Span) -> DoneGiven
-        ensures { (opens : List ℕ) → Fit (state self room.old opens) → done_reply result room.new opens ≡ pushes event last (state self room.old opens) }
+    // Pushes an event, behind which the last token is `last`.
+    fn push(
+        self,
+        room: &mut [u32],
+        opens: &[usize],
+        event: Event,
+        last: Span,
+    ) -> Result<((), Stream), Refusal>
+        ensures { done_reply (given self result) room.new opens.now ≡ pushes_if_sound event last (state self room.old opens.now) }
     {
+        self.check(&*room, opens)?;
         let span = event.span;
         if (span.end.0 < span.start.0) | (SPAN_LIMIT < span.end.0) {
-            return self.refused(Refusal::NoSpan);
+            return Err(Refusal::NoSpan);
         }
         if self.spare() < 1 {
-            self.refused(Refusal::EventsFull)
-        } else {
-            event_room::put(room, self.slots, self.front, Position(self.count), event);
-            self.counted(self.count + 1, self.opened, last)
+            return Err(Refusal::EventsFull);
         }
+        event_room::put(room, self.slots, self.front, Position(self.count), event);
+        Ok(((), self.counted(self.count + 1, self.opened, last)))
     }
 }

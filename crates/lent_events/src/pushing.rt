@@ -6,7 +6,7 @@ ghost use Rattle.events.specs.Stream.{state, step, done_told};
 
 use event_record::Span;
 use events::Stream;
-use refusals::DoneAnswer;
+use refusals::Refusal;
 
 // A token, which is the last one then.
 pub fn push_token(
@@ -15,12 +15,12 @@ pub fn push_token(
     opens: &[usize],
     kind: u16,
     span: Span,
-) -> DoneAnswer
+) -> Result<(), Refusal>
     ensures { reply (done_told result) (state stream.new room.new opens.now) ≡ step (push_token kind span) (state stream.old room.old opens.now) }
 {
     let before = *stream;
     let given = before.push_token(room, opens, kind, span);
-    *stream = given.stream;
+    *stream = given.after;
     given.answer
 }
 
@@ -31,11 +31,11 @@ pub fn push_error(
     opens: &[usize],
     message: u16,
     span: Span,
-) -> DoneAnswer
+) -> Result<(), Refusal>
     ensures { reply (done_told result) (state stream.new room.new opens.now) ≡ step (push_error message span) (state stream.old room.old opens.now) }
 {
     let before = *stream;
     let given = before.push_error(room, opens, message, span);
-    *stream = given.stream;
+    *stream = given.after;
     given.answer
 }

@@ -3,5 +3,4 @@
 use Rattle.events.proofs.Stream.close.Goals as goal
 
 pub returns : goal.returns
-returns c =
-    (c.counted.ensures, rw (c.put-2.ensures, c.put.ensures, c.span_of-span.ensures))
+returns c = (c.counted.ensures, rw (c.put-2.ensures, c.put.ensures))

@@ -1,12 +1,8 @@
--- The test of 24, and then what `push` promises.
+-- The event is a token.
 -- Assumes nothing.
-use Rattle.events.specs.SoundLaws.{not_sound}
-use Rattle.events.specs.PushingLaws.{token_pushed}
+use Rattle.std.proofs.Common.{◌∙◌}
+use Rattle.events.specs.PushingLaws.{token_is}
 use Rattle.events.proofs.Stream.push_token.Goals as goal
 
-pub returns-then-is_sound : goal.returns-then-is_sound
-returns-then-is_sound c =
-    token_pushed _ _ _ c.is_sound.ensures c.if-is_sound.true (c.push.ensures _)
-
-pub returns-else-is_sound : goal.returns-else-is_sound
-returns-else-is_sound c = rw c.refused.ensures (not_sound _ _ c.is_sound.ensures c.if-is_sound.false)
+pub returns : goal.returns
+returns c = rw c.given.ensures (rw c.from.ensures at (c.push.ensures ∙ token_is _ _ _))
