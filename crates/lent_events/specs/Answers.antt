@@ -1,6 +1,6 @@
--- What the walk of a thin call wants to know of an answer and of the struct that gives it beside the stream. An answer is an enum of
--- plain data, and the struct has these two fields, so all of it is had for any enum at once (`family`). Assumes nothing.
-use Rattle.std.specs.Prelude.{◌≡◌, List, [], ◌∷◌, T as Holds}
+-- What the walk of a thin call wants to know of an answer and of the struct that gives it beside the stream. An answer is a `Result` of
+-- plain data or a refusal, and the struct is `refusals::Given`, so all of it is had for any value at once (`family`). Assumes nothing.
+use Rattle.std.specs.Prelude.{◌≡◌, refl, List, [], ◌∷◌, Option, Result, T as Holds}
 use Rattle.std.proofs.Common.{ap}
 use seplogic.Ra.Ura.{Ura}
 use mir.Syntax.{Sym, Ty, ty_struct, tcons, tnil}
@@ -9,31 +9,34 @@ use types.Logic.{Logic}
 use denote.RattleType.{RattleType}
 use denote.Laws.{Is, Makes}
 use denote.Steps.{only}
-use denote.Struct.Laws as LL
-use denote.Enum.Laws as EL
 use denote.Enum.Declared as ED
-use denote.Enum.Enum.{Few, Plainss, layout as enum_ty}
+use denote.Enum.Laws as EL
+use denote.Enum.Enum.{layout as enum_ty}
 use denote.Struct.Declared as SD
-use denote.Struct.Field.{Field}
-use denote.Struct.Values.{Values}
-use denote.Struct.Record.{Done, declared}
-use denote.Lowered.{Lowered}
+use denote.Struct.Laws as LL
+use denote.Struct.Laws.{unit-laws, unit-copy, unit-plain}
+use denote.Struct.Field.{unit-field}
+use denote.Param.Laws.{Laws, Told, of_field, field_told}
+use denote.Param.Plain.{IsPlain}
+use denote.Param.Shared.{copy_shared}
+use Rattle.std.specs.contracts.option.Option as O
+use Rattle.std.proofs.option.Option.TheLaws as O'
+use Rattle.std.specs.contracts.result.Result as R
+use Rattle.std.proofs.result.Result.TheLaws as R'
 use Rattle.refusals.specs.Calls.{reply}
+use Rattle.refusals.specs.declared.Refusal.{Refusal}
+use Rattle.refusals.specs.declared.Given.{Given}
+use Rattle.refusals.specs.contracts.Refusal as N
+use Rattle.refusals.proofs.Refusal.TheLaws as N'
+use Rattle.refusals.specs.contracts.Given as G
+use Rattle.refusals.proofs.Given.TheLaws as G'
 use Rattle.event_record.specs.Record.{Call, Answer}
+use Rattle.event_record.specs.contracts.Position as Position
+use Rattle.event_record.proofs.Position.TheLaws as Position'
+use Rattle.event_record.specs.contracts.Event as Event
+use Rattle.event_record.proofs.Event.TheLaws as Event'
 use Rattle.events.specs.declared.Stream.{Stream}
-use Rattle.events.specs.declared.DoneGiven.{DoneGiven}
-use Rattle.events.specs.declared.PositionGiven.{PositionGiven}
-use Rattle.events.specs.declared.EventGiven.{EventGiven}
 use Rattle.events.specs.Stream.{State, step, done_told, position_told, event_told}
-use Rattle.refusals.specs.contracts.DoneAnswer as DoneA
-use Rattle.refusals.proofs.DoneAnswer.TheLaws as Done'
-use Rattle.events.specs.contracts.PositionAnswer as Position
-use Rattle.events.proofs.PositionAnswer.TheLaws as Position'
-use Rattle.events.specs.contracts.EventAnswer as Event
-use Rattle.events.proofs.EventAnswer.TheLaws as Event'
-use Rattle.events.specs.contracts.DoneGiven as DoneG
-use Rattle.events.specs.contracts.PositionGiven as PositionG
-use Rattle.events.specs.contracts.EventGiven as EventG
 use Rattle.events.specs.contracts.Stream as T
 use Rattle.events.proofs.Stream.TheLaws as T'
 
@@ -70,45 +73,43 @@ given_ty F = ty_struct F.name (tcons F.ty (tcons T'.mir tnil))
 abbrev pub given_val : (F : Answers) → F.given.Denot → Val
 given_val F r = vstruct (vcons (F.val (F.answer_of r)) (vcons (stream_val (F.stream_of r)) vnil))
 
--- the family of an enum and of the struct G of it and a stream
-module _ (An : ED.Declared) (L : EL.Laws An) (few : Few (ED.shape An)) (plain : Plainss (ED.variants An)) (low : Lowered (ED.row An)) (told : An.D → Answer) (name : Sym) (G : Type 0) (answer_of : G → An.D) (stream_of : G → Stream) where
-  abbrev parts : List Field
-  parts = ED.field An ∷ T.the_field ∷ []
+-- the family of a call that gives a value of type V: what is known of V as a type argument, its machine value, and that it is plain
+module _ (V : RattleType) (L : Laws V) (t : Told V) (plain : IsPlain V) (told : Result V.Denot Refusal → Answer) where
+  abbrev answer_type : ED.Declared
+  answer_type = R.the_type V N.the_row
 
-  abbrev as_values : G → Values parts
-  as_values r = (answer_of r, (stream_of r, tt))
+  abbrev answer_laws : EL.Laws answer_type
+  answer_laws = R'.the_laws V N.the_row L N'.the_row_laws t N'.the_told
 
-  -- G is just these two fields
-  module _ (make : Values parts → Done → G) (eta : (r : G) → make (as_values r) tt ≡ r) (beta : (v : Values parts) (g : Done) → as_values (make v g) ≡ v) (propositions : Values parts → IsProp Done) where
-    abbrev struct : SD.Declared
-    struct = declared (record { name = name; args = []; types = []; parts = parts; D = G; as_values = as_values; Ghost = λ v. Done; ghosts = λ d. tt; make = make; eta = eta; beta = beta }) propositions
+  abbrev struct : SD.Declared
+  struct = G.the_type V T.the_row
 
-    abbrev laws : LL.Laws struct
-    laws = (EL.field_laws An L few low, (T'.the_field_laws, tt))
+  abbrev laws : LL.Laws struct
+  laws = G'.the_laws V T.the_row L T'.the_row_laws t T'.the_told
 
-    abbrev pub family : Answers
-    family = record {
-      answer = ED.row An;
-      given = SD.row struct;
-      ty = enum_ty (ED.shape An);
-      name = name;
-      val = EL.val An L;
-      told = told;
-      answer_of = answer_of;
-      stream_of = stream_of;
-      tells = λ r w is. ap only (LL.tells struct laws r (w ∷ []) is);
-      holds = λ r w is. ((LL.owed struct laws r (w ∷ []) is).0, (LL.owed struct laws r (w ∷ []) is).1.0);
-      given_typed = λ 𝓛 r w is. ((LL.lawful struct laws 𝓛).typed r (w ∷ []) is).0;
-      answer_typed = λ 𝓛 a is. ((EL.lawful An L 𝓛 few).typed a (EL.val An L a ∷ []) is).0;
-      makes = EL.makes An plain;
-    }
+  abbrev pub family : Answers
+  family = record {
+    answer = ED.row answer_type;
+    given = SD.row struct;
+    ty = enum_ty (ED.shape answer_type);
+    name = struct.name;
+    val = EL.val answer_type answer_laws;
+    told = told;
+    answer_of = λ r. r.answer;
+    stream_of = λ r. r.after;
+    tells = λ r w is. ap only (LL.tells struct laws r (w ∷ []) is);
+    holds = λ r w is. ((LL.owed struct laws r (w ∷ []) is).0, (LL.owed struct laws r (w ∷ []) is).1.0);
+    given_typed = λ 𝓛 r w is. ((LL.lawful struct laws 𝓛).typed r (w ∷ []) is).0;
+    answer_typed = λ 𝓛 a is. ((EL.lawful answer_type answer_laws 𝓛 tt).typed a (EL.val answer_type answer_laws a ∷ []) is).0;
+    makes = EL.makes answer_type (R'.the_plain V N.the_row plain N'.the_row_plain);
+  }
 
 -- the three families
 abbrev pub dones : Answers
-dones = family DoneA.the_type Done'.the_laws tt Done'.the_plain Done'.lowers done_told (DoneG.struct).name DoneGiven (λ r. r.answer) (λ r. r.stream) (DoneG.struct).make (DoneG.struct).eta (DoneG.struct).beta DoneG.the_propositions
+dones = family unit-field.row (of_field unit-field unit-laws refl (copy_shared unit-field unit-copy)) (field_told unit-field unit-laws) unit-plain done_told
 
 abbrev pub positions : Answers
-positions = family Position.the_type Position'.the_laws tt Position'.the_plain Position'.lowers position_told (PositionG.struct).name PositionGiven (λ r. r.answer) (λ r. r.stream) (PositionG.struct).make (PositionG.struct).eta (PositionG.struct).beta PositionG.the_propositions
+positions = family Position.the_row Position'.the_row_laws Position'.the_told Position'.the_row_plain position_told
 
 abbrev pub events : Answers
-events = family Event.the_type Event'.the_laws tt Event'.the_plain Event'.lowers event_told (EventG.struct).name EventGiven (λ r. r.answer) (λ r. r.stream) (EventG.struct).make (EventG.struct).eta (EventG.struct).beta EventG.the_propositions
+events = family (O.the_row Event.the_row) (O'.the_row_laws Event.the_row Event'.the_row_laws) (O'.the_told Event.the_row Event'.the_row_laws Event'.the_told) (O'.the_row_plain Event.the_row Event'.the_row_plain) event_told
