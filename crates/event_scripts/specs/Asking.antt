@@ -3,7 +3,6 @@ use Rattle.std.specs.Prelude.{ℕ, ◌%◌, ◌≡◌, refl, List, [], ◌∷◌
 use Rattle.event_record.specs.Record.{Call, push_token, push_error, begin, end, end_with_error, bookmark, truncate, remove_bookmark, pop, Answer, done, none, position, event, refused, Reply, span, at}
 use Rattle.events.specs.Stream.{State, state}
 use Rattle.event_scripts.specs.declared.asking.Asked.{Asked}
-use Rattle.event_scripts.specs.declared.asking.Told.{Told}
 use Rattle.event_scripts.specs.declared.asking.ToldGiven.{ToldGiven}
 
 -- A call is four numbers: which one, and its arguments. Of a kind or message the low 16 bits count.
@@ -41,18 +40,12 @@ five (position p) = refl
 five done = refl
 five (refused n) = refl
 
--- The structs: the call that is asked for; the numbers of an answer, one with at most one value, and the answer's numbers beside the state.
+-- The structs: the call that is asked for; and the answer's numbers beside the state.
 abbrev pub asked_for : Asked → Call
 asked_for x = call_of x.op x.arg x.start x.end
 
-abbrev pub told_numbers : Told → List ℕ
-told_numbers x = x.tag ∷ x.first ∷ x.second ∷ x.third ∷ x.fourth ∷ []
-
-abbrev pub single : ℕ → ℕ → Told
-single tag n = record { tag = tag; first = n; second = 0; third = 0; fourth = 0 }
-
 abbrev pub told_reply : ToldGiven → List ℕ → List ℕ → List ℕ × State
-told_reply g room opens = (told_numbers g.told, state g.stream room opens)
+told_reply g room opens = (g.told, state g.stream room opens)
 
 abbrev pub told_of : Reply State → List ℕ × State
 told_of y = (numbers y.answer, y.after)

@@ -8,9 +8,8 @@ use Rattle.event_record.specs.Record.{Call, pop, Answer, Reply, reply}
 use Rattle.events.specs.declared.Stream.{Stream}
 use Rattle.events.specs.Stream.{State, state, step}
 use Rattle.event_scripts.specs.declared.asking.Asked.{Asked}
-use Rattle.event_scripts.specs.declared.asking.Told.{Told}
 use Rattle.event_scripts.specs.declared.asking.ToldGiven.{ToldGiven}
-use Rattle.event_scripts.specs.Asking.{kind_of, calls, call_of, asked_for, numbers, told_numbers, told_reply, told_of}
+use Rattle.event_scripts.specs.Asking.{kind_of, calls, call_of, asked_for, numbers, told_reply, told_of}
 
 -- the call of a number, and the one of all numbers behind the table
 module _ (x : Asked) (s : State) {r : Reply State} where
@@ -28,15 +27,10 @@ module _ (x : Asked) (s : State) {r : Reply State} where
 
 -- a call's reply, and the numbers of its answer
 pub gave : {y : Reply State} {a : Answer} {t : Stream} {g : ToldGiven} {room opens : List ℕ}
-    → reply a (state t room opens) ≡ y → (told_numbers g.told ≡ numbers a) × (g.stream ≡ t) → told_reply g room opens ≡ told_of y
+    → reply a (state t room opens) ≡ y → (g.told ≡ numbers a) × (g.stream ≡ t) → told_reply g room opens ≡ told_of y
 gave e n = rw (← e, n.0, n.1)
 
 -- two results that satisfy the promise are equal, with every lent number
 pub told_once : Once (λ (p : ToldGiven × (List ℕ × List ℕ)). told_reply p.0 p.1.0 p.1.1)
 told_once =
-    once _
-    (λ q.
-    let n : ℕ → ℕ = λ i. get_or q.0 i 0 in
-    let told : Told = record { tag = n 0; first = n 1; second = n 2; third = n 3; fourth = n 4 } in
-    (record { told = told; stream = q.1.stream }, (q.1.room, q.1.opens)))
-    (λ p. refl)
+    once _ (λ q. (record { told = q.0; stream = q.1.stream }, (q.1.room, q.1.opens))) (λ p. refl)

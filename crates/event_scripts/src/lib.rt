@@ -7,14 +7,14 @@ ghost use Rattle.scripts.specs.Scripts.{call_at};
 ghost use Rattle.scripts.specs.Running.{ran};
 ghost use Rattle.event_record.specs.Record.{reply};
 ghost use Rattle.events.specs.Stream.{state, step, done_told};
-ghost use Rattle.event_scripts.specs.Asking.{asked_for, told_numbers};
+ghost use Rattle.event_scripts.specs.Asking.{asked_for};
 ghost use Rattle.event_scripts.specs.Script.{form, lent, replayed};
 
 mod asking;
 
 pub use asking::{Asked, Told, ToldGiven, call};
 use events::Stream;
-use refusals::{DoneAnswer, Refusal};
+use refusals::Refusal;
 
 // Opens an event stream over the two rooms and runs the calls of the script, four numbers each; numbers that are left over are none. Their
 // answers, five numbers each, are written one after the other; the numbers behind them stay. Refused, and nothing written, where there is
@@ -24,16 +24,16 @@ pub fn replay(
     room: &mut [u32],
     opens: &mut [usize],
     answers: &mut [usize],
-) -> DoneAnswer
+) -> Result<(), Refusal>
     ensures { reply (done_told result) (lent room.new opens.new answers.new) ≡ replayed script.now room.old opens.old answers.old }
 {
     let calls = script.len() / 4;
     if answers.len() / 5 < calls {
-        return DoneAnswer::Refused(Refusal::NoRoom);
+        return Err(Refusal::NoRoom);
     }
     let stream = Stream::open(&*room, &*opens);
     run(stream, script, room, opens, answers, calls);
-    DoneAnswer::Done
+    Ok(())
 }
 
 // Runs the first calls of a script, and notes their answers from the front on; gives the stream after them.
@@ -49,13 +49,11 @@ fn run(
     ensures { (state result room.new opens.new, answers.new) ≡ ran form step script.now 0 calls (state opened room.old opens.old) answers.old }
 {
     let mut stream = opened;
-    let mut i = 0;
-    while i < calls {
+    for i in 0..calls {
         let at = i * 5;
         let given = asking::call(stream, room, opens, asked(script, i));
         put(answers, at, given.told);
         stream = given.stream;
-        i += 1;
     }
     stream
 }
@@ -65,26 +63,19 @@ fn asked(script: &[u32], i: usize) -> Asked
     requires { i * 4 + 4 ≤ length script.now }
     ensures { asked_for result ≡ call_at form script.now i }
 {
-    let op = script[i * 4];
-    let arg = script[i * 4 + 1];
-    let start = script[i * 4 + 2];
-    let end = script[i * 4 + 3];
+    let at = i * 4;
     Asked {
-        op,
-        arg,
-        start,
-        end,
+        op: script[at],
+        arg: script[at + 1],
+        start: script[at + 2],
+        end: script[at + 3],
     }
 }
 
 // Writes the numbers of an answer at a place.
 fn put(answers: &mut [usize], at: usize, told: Told)
     requires { at + 5 ≤ length answers.old }
-    ensures { answers.new ≡ sets answers.old at (told_numbers told) }
+    ensures { answers.new ≡ sets answers.old at told }
 {
-    answers[at] = told.tag;
-    answers[at + 1] = told.first;
-    answers[at + 2] = told.second;
-    answers[at + 3] = told.third;
-    answers[at + 4] = told.fourth;
+    answers[at..at + 5].copy_from_slice(&told);
 }

@@ -115,18 +115,22 @@ unfolding sound answered
 step c s = unless refused ((not (sound s), 24) ∷ []) s (answered c s)
 
 -- The code's answers in document 01's values, with the stream given back and the rooms.
+abbrev pub told_by : {T : Type 0} → (T → Answer) → Result T Refusal → Answer
+told_by f (Ok x) = f x
+told_by f (Err n) = refused (number_of n)
+
+abbrev pub popped : Option Event → Answer
+popped (Some y) = event y
+popped None = none
+
 abbrev pub done_told : Result Unit Refusal → Answer
-done_told (Ok u) = done
-done_told (Err n) = refused (number_of n)
+done_told r = told_by (λ u. done) r
 
 abbrev pub position_told : Result Position Refusal → Answer
-position_told (Ok p) = position p
-position_told (Err n) = refused (number_of n)
+position_told r = told_by position r
 
 abbrev pub event_told : Result (Option Event) Refusal → Answer
-event_told (Ok (Some y)) = event y
-event_told (Ok None) = none
-event_told (Err n) = refused (number_of n)
+event_told r = told_by popped r
 
 abbrev pub done_reply : Given Unit Stream → List ℕ → List ℕ → Reply State
 done_reply g room opens = reply (done_told g.answer) (state g.after room opens)

@@ -13,14 +13,9 @@ module _ (c : Call) (l : Lent) where
   unfolding live
   not_made f = rw f
 
-  -- the record read, the call made on it, its answer, and what it changes stored
-  pub made : forged l.stream ≡ false → {A : Type 0} (told : A → Answer) {w t : Stream} {a b : A} {stream room opens : List ℕ}
-      → w ≡ stream_of l.stream → reply (told a) (state t room opens) ≡ step c (state w l.room l.opens)
-      → (b ≡ a) × (stream ≡ left (told a) l.stream (changed c l.stream t)) → reply (told b) (lent stream room opens) ≡ live c l
+  -- the record read, the call made on it, its answer, and what it changes stored, or nothing
+  pub made : {w : Stream} → (forged l.stream ≡ false) × (w ≡ stream_of l.stream) → {A : Type 0} (told : A → Answer) {t : Stream} {a b : A} {stream room opens : List ℕ}
+      → reply (told a) (state t room opens) ≡ step c (state w l.room l.opens) → a ≡ b → stream ≡ left (told b) l.stream (changed c l.stream t)
+      → reply (told b) (lent stream room opens) ≡ live c l
   unfolding live
-  made f told q e s = rw (f, s.0, s.1, ← q) (ap (kept c l.stream) e)
-
--- an answer, and what is left of the numbers with it
-pub given_left : {A : Type 0} (told : A → Answer) (put : List ℕ → Stream → List ℕ) (l : List ℕ) (t : Stream) {a b : A} {k : List ℕ}
-    → a ≡ b → k ≡ left (told b) l (put l t) → (b ≡ a) × (k ≡ left (told a) l (put l t))
-given_left told put l t e q = rw e (refl, q)
+  made r told e p s = rw (r.0, s, ← p, ← r.1) (ap (kept c l.stream) e)

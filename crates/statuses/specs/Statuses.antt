@@ -1,8 +1,7 @@
 -- A call's status is a number that says what came of it. A C function tells a reply by the status, with all that is lent after the call;
 -- and where something is lent for what the call finds, by that too. Assumes nothing.
-use Rattle.std.specs.Prelude.{ℕ}
-use Rattle.refusals.specs.declared.DoneAnswer.{DoneAnswer}
-use Rattle.refusals.specs.declared.DoneAnswer.TheVariants.{Done, Refused}
+use Rattle.std.specs.Prelude.{ℕ, Result, Ok, Err}
+use Rattle.refusals.specs.declared.Refusal.{Refusal}
 use Rattle.refusals.specs.Refusals.{number_of}
 use Rattle.refusals.specs.Calls.{Reply}
 
@@ -17,9 +16,9 @@ status_of none = 100
 status_of (refused n) = n
 
 -- The code's answer that gives nothing else.
-abbrev pub done_outcome : DoneAnswer → Outcome
-done_outcome Done = found
-done_outcome (Refused n) = refused (number_of n)
+abbrev pub done_outcome : Result Unit Refusal → Outcome
+done_outcome (Ok u) = found
+done_outcome (Err n) = refused (number_of n)
 
 -- A reply told, with what is lent; and with what is lent for what it finds, which is written there.
 abbrev pub told_by : {A S : Type 0} → (A → Outcome) → Reply A S → ℕ × S

@@ -5,17 +5,17 @@
 ghost use Rattle.std.specs.Prelude.{◌≡◌};
 ghost use Rattle.statuses.specs.Statuses.{status_of, done_outcome};
 
-use refusals::DoneAnswer;
+use refusals::Refusal;
 
 // The status of a call that finds none.
 pub const NONE: u32 = 100;
 
 // The status of an answer that gives nothing else.
-pub fn status(answer: DoneAnswer) -> u32
+pub fn status(answer: Result<(), Refusal>) -> u32
     ensures { result ≡ status_of (done_outcome answer) }
 {
     match answer {
-        DoneAnswer::Done => 0,
-        DoneAnswer::Refused(refusal) => refusals::number(refusal),
+        Ok(()) => 0,
+        Err(refusal) => u32::from(refusal),
     }
 }

@@ -2,11 +2,12 @@
 // spans last and gone, and whether anything was popped. So it can stand in memory that is not Rattle's between two calls.
 #![tactic(auto)]
 
-ghost use Rattle.std.specs.Prelude.{◌≡◌};
+ghost use Rattle.std.specs.Prelude.{◌≡◌, true, false, IfOk, IfErr};
 ghost use Rattle.stream_numbers.specs.Numbers.{truth_number, stream_of, numbers_of, put_count, put_last, put_opened, put_bookmarks, put_popped, forged};
 
 use event_record::Span;
 use events::Stream;
+use refusals::Refusal;
 use rooms::Slot;
 use tokens::Offset;
 
@@ -66,6 +67,17 @@ pub fn numbers_of(stream: Stream) -> Numbers
         gone.end.0,
         truth(stream.popped),
     ]
+}
+
+// The record that the numbers are, where they are those of one: 24 refuses the others.
+pub fn record_of(numbers: Numbers) -> Result<Stream, Refusal>
+    ensures record { IfOk result (λ t. (forged numbers ≡ false) × (t ≡ stream_of numbers)) }
+    ensures refused { IfErr result (λ n. (forged numbers ≡ true) × (n ≡ Refusal.NotAsOpened)) }
+{
+    if is_forged(numbers) {
+        return Err(Refusal::NotAsOpened);
+    }
+    Ok(stream_of(numbers))
 }
 
 // Stores the count and the last token.

@@ -1,20 +1,15 @@
--- `event_scripts::put` meets its contract: five stores, one behind the other.
+-- The numbers stand in the place of as many.
 -- Assumes nothing.
-use Rattle.std.proofs.Common.{arith, length-set}
-use native.Mathlib.Numerals.{unary_clauses}
+use Rattle.std.proofs.Common.{◌≡◌, ◌+◌, ◌-◌, List, length, take, drop, ◌++◌, ap, ◌∙◌, sym, ℕ, arith, append_assoc, drop-drop}
+use Rattle.std.proofs.lemmas.List.Edits.{sets-eq}
 use Rattle.event_scripts.proofs.put.Goals as goal
 
-pub bounds-answers-at-2 : goal.bounds-answers-at-2
-bounds-answers-at-2 c = simp length-set (omega arith)
-
-pub bounds-answers-at-3 : goal.bounds-answers-at-3
-bounds-answers-at-3 c = simp length-set (omega arith)
-
-pub bounds-answers-at-4 : goal.bounds-answers-at-4
-bounds-answers-at-4 c = simp length-set (omega arith)
-
-pub bounds-answers-at-5 : goal.bounds-answers-at-5
-bounds-answers-at-5 c = simp length-set (omega arith)
-
 pub returns : goal.returns
-returns c = simp unary_clauses
+returns c =
+    let a = c.args in
+    let now = a.answers.now in
+    let n : length a.told ≡ 5 = omega arith in
+    let e : a.at + (a.at + 5 - a.at) ≡ a.at + length a.told = omega arith in
+    rw c.copy_from_slice.ensures.after
+    (ap (λ (l : List ℕ). take a.at now ++ (a.told ++ l)) (drop-drop (a.at + 5 - a.at) a.at now ∙ ap (λ (k : ℕ). drop k now) e)
+    ∙ sym (rw append_assoc at (sets-eq a.told now a.at (omega arith))))

@@ -14,7 +14,7 @@ loop-i-preserved c =
     let s = c.args in
     let l = c.loop-i in
     let before = state l.stream l.room l.opens in
-    let h : l.i < s.calls = c.loop-i-test.true in (
+    let h : l.i < s.calls = (omega arith) in (
       omega arith,
       c.call-given.auto.room ∙ l.invariant.1,
       c.call-given.auto.opens ∙ l.invariant.2,

@@ -1,5 +1,5 @@
 -- `event_scripts::run` meets its contract. The loop's invariant: the calls that are left, run from here on, leave what all calls leave from
--- the start. The measure is the number of calls that are left. Assumes nothing.
+-- the start. Assumes nothing.
 use Rattle.std.proofs.Common.{◌≤◌, ◌-◌, ◌≡◌, length}
 use Rattle.scripts.specs.Running.{ran}
 use Rattle.events.specs.Stream.{state, step}
@@ -10,6 +10,3 @@ abbrev pub invariant-loop-i : goal.invariant-loop-i
 invariant-loop-i l =
     (l.i ≤ l.calls) × (length l.room ≡ length l.initial.room) × (length l.opens ≡ length l.initial.opens) × (length l.answers ≡ length l.initial.answers)
     × (ran form step l.script l.i (l.calls - l.i) (state l.stream l.room l.opens) l.answers ≡ ran form step l.script 0 l.calls (state l.initial.stream l.initial.room l.initial.opens) l.initial.answers)
-
-abbrev pub decreases-loop-i : goal.decreases-loop-i
-decreases-loop-i l = l.calls - l.i

@@ -1,18 +1,27 @@
--- `live_events::pop` meets its contract: forged numbers are refused; else the stream's own call is made on the record that the numbers are,
--- and the record that it leaves is stored. Assumes nothing.
-use Rattle.std.proofs.Common.{sym, ◌∙◌}
+-- Forged numbers are refused; else the stream's own call is made on the record that they are, and what it changes is stored.
+-- Assumes nothing.
+use Rattle.std.proofs.Common.{refl}
+use Rattle.std.proofs.lemmas.Result.{err_from_is_err_and}
 use Rattle.event_record.specs.Record.{pop}
 use Rattle.events.specs.Stream.{event_told}
 use Rattle.live_events.specs.Live.{lent}
 use Rattle.live_events.proofs.LiveCases.{not_made, made}
 use Rattle.live_events.proofs.pop.Goals as goal
 
-pub returns-then-is_forged : goal.returns-then-is_forged
-returns-then-is_forged c =
-    not_made pop (lent c.args.stream.now c.args.room.now c.args.opens.now)
-    (sym c.is_forged.ensures ∙ c.if-is_forged.true)
+pub returns-in_err-record_of : goal.returns-in_err-record_of
+returns-in_err-record_of c =
+    let a = c.args in
+    let p = err_from_is_err_and c.from_residual-in_err-record_of.result c.from_residual-in_err-record_of.ensures.1 in
+    let r = c.in_err-record_of.ensures.refused in
+    rw (p.1, p.2, r.1) (not_made pop (lent a.stream.now a.room.now a.opens.now) r.0)
+
+pub returns-in_err-first : goal.returns-in_err-first
+returns-in_err-first c =
+    let a = c.args in
+    let p = err_from_is_err_and c.from_residual-in_err-first.result c.from_residual-in_err-first.ensures.1 in
+    rw (p.1, p.2) (made pop (lent a.stream.now a.room.now a.opens.now) c.in_ok-record_of.ensures.record event_told c.pop.ensures c.in_err-first.was refl)
 
 pub returns : goal.returns
 returns c =
-    made pop (lent c.args.stream.now c.args.room.now c.args.opens.now)
-    (sym c.is_forged.ensures ∙ c.if-is_forged.false) event_told c.stream_of.ensures c.pop.ensures c.event.ensures
+    let a = c.args in
+    made pop (lent a.stream.now a.room.now a.opens.now) c.in_ok-record_of.ensures.record event_told c.pop.ensures c.in_ok-first.was c.store_popped.ensures

@@ -1,18 +1,27 @@
--- `live_events::push_token` meets its contract: forged numbers are refused; else the stream's own call is made on the record that the
--- numbers are, and what it changes is stored. Assumes nothing.
-use Rattle.std.proofs.Common.{sym, ◌∙◌}
+-- Forged numbers are refused; else the stream's own call is made on the record that they are, and what it changes is stored.
+-- Assumes nothing.
+use Rattle.std.proofs.Common.{refl}
+use Rattle.std.proofs.lemmas.Result.{err_from_is_err_and}
 use Rattle.event_record.specs.Record.{push_token}
 use Rattle.events.specs.Stream.{done_told}
 use Rattle.live_events.specs.Live.{lent}
 use Rattle.live_events.proofs.LiveCases.{not_made, made}
 use Rattle.live_events.proofs.push_token.Goals as goal
 
-pub returns-then-is_forged : goal.returns-then-is_forged
-returns-then-is_forged c =
-    not_made (push_token c.args.kind c.args.span) (lent c.args.stream.now c.args.room.now c.args.opens.now)
-    (sym c.is_forged.ensures ∙ c.if-is_forged.true)
+pub returns-in_err-record_of : goal.returns-in_err-record_of
+returns-in_err-record_of c =
+    let a = c.args in
+    let p = err_from_is_err_and c.from_residual-in_err-record_of.result c.from_residual-in_err-record_of.ensures.1 in
+    let r = c.in_err-record_of.ensures.refused in
+    rw (p.1, p.2, r.1) (not_made (push_token a.kind a.span) (lent a.stream.now a.room.now a.opens.now) r.0)
+
+pub returns-in_err-answer : goal.returns-in_err-answer
+returns-in_err-answer c =
+    let a = c.args in
+    let p = err_from_is_err_and c.from_residual-in_err-answer.result c.from_residual-in_err-answer.ensures.1 in
+    rw (p.1, p.2) (made (push_token a.kind a.span) (lent a.stream.now a.room.now a.opens.now) c.in_ok-record_of.ensures.record done_told c.push_token.ensures c.in_err-answer.was refl)
 
 pub returns : goal.returns
 returns c =
-    made (push_token c.args.kind c.args.span) (lent c.args.stream.now c.args.room.now c.args.opens.now)
-    (sym c.is_forged.ensures ∙ c.if-is_forged.false) done_told c.stream_of.ensures c.push_token.ensures c.with_last.ensures
+    let a = c.args in
+    made (push_token a.kind a.span) (lent a.stream.now a.room.now a.opens.now) c.in_ok-record_of.ensures.record done_told c.push_token.ensures c.in_ok-answer.was c.store_last.ensures
