@@ -1,10 +1,12 @@
 -- The cases of a call on numbers: forged ones, and the stream's own call; and of its answer. By one look at the definition each.
 -- Assumes nothing.
-use Rattle.std.specs.Prelude.{ℕ, ◌≡◌, refl, true, false, List}
+use Rattle.std.specs.Prelude.{ℕ, ◌≡◌, refl, true, false, List, Option, Some, None}
+use Rattle.std.specs.Option.{is_some}
 use Rattle.std.proofs.Common.{ap}
+use Rattle.event_record.specs.declared.Event.{Event}
 use Rattle.event_record.specs.Record.{Call, Answer, refused, reply}
 use Rattle.events.specs.declared.Stream.{Stream}
-use Rattle.events.specs.Stream.{state, step}
+use Rattle.events.specs.Stream.{state, step, popped}
 use Rattle.stream_numbers.specs.Numbers.{stream_of, forged}
 use Rattle.live_events.specs.Live.{Lent, lent, changed, left, kept, live}
 
@@ -19,3 +21,12 @@ module _ (c : Call) (l : Lent) where
       → reply (told b) (lent stream room opens) ≡ live c l
   unfolding live
   made r told e p s = rw (r.0, s, ← p, ← r.1) (ap (kept c l.stream) e)
+
+-- what a pop changes is left where it found an event
+pub some_left : (o : Option Event) (l : List ℕ) {k j : List ℕ} → is_some o ≡ true → j ≡ k → j ≡ left (popped o) l k
+some_left (Some y) l e h = h
+some_left None l e h = absurd (cc)
+
+pub none_left : (o : Option Event) (l k : List ℕ) → is_some o ≡ false → l ≡ left (popped o) l k
+none_left (Some y) l k e = absurd (cc)
+none_left None l k e = refl

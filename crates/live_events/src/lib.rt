@@ -54,7 +54,12 @@ pub fn push_error(
 }
 
 // Begins a node.
-pub fn begin(stream: &mut Numbers, room: &mut [u32], opens: &mut [usize], kind: u16) -> Result<(), Refusal>
+pub fn begin(
+    stream: &mut Numbers,
+    room: &mut [u32],
+    opens: &mut [usize],
+    kind: u16,
+) -> Result<(), Refusal>
     ensures { reply (done_told result) (lent stream.new room.new opens.new) ≡ live (begin-node kind) (lent stream.old room.old opens.old) }
 {
     let given = stream_numbers::record_of(*stream)?.begin(room, opens, kind);
@@ -74,7 +79,11 @@ pub fn end(stream: &mut Numbers, room: &mut [u32], opens: &[usize]) -> Result<()
 }
 
 // Ends the node begun last, with an error.
-pub fn end_with_error(stream: &mut Numbers, room: &mut [u32], opens: &[usize]) -> Result<(), Refusal>
+pub fn end_with_error(
+    stream: &mut Numbers,
+    room: &mut [u32],
+    opens: &[usize],
+) -> Result<(), Refusal>
     ensures { reply (done_told result) (lent stream.new room.new opens.now) ≡ live end_with_error (lent stream.old room.old opens.now) }
 {
     let given = stream_numbers::record_of(*stream)?.end_with_error(room, opens);

@@ -11,17 +11,17 @@ use Rattle.live_events.proofs.push_error.Goals as goal
 pub returns-in_err-record_of : goal.returns-in_err-record_of
 returns-in_err-record_of c =
     let a = c.args in
-    let p = err_from_is_err_and c.from_residual-in_err-record_of.result c.from_residual-in_err-record_of.ensures.1 in
+    let p = err_from_is_err_and c.from_residual.result c.from_residual.ensures.1 in
     let r = c.in_err-record_of.ensures.refused in
     rw (p.1, p.2, r.1) (not_made (push_error a.message a.span) (lent a.stream.now a.room.now a.opens.now) r.0)
 
-pub returns-in_err-answer : goal.returns-in_err-answer
-returns-in_err-answer c =
+pub returns-in_err-given : goal.returns-in_err-given
+returns-in_err-given c =
     let a = c.args in
-    let p = err_from_is_err_and c.from_residual-in_err-answer.result c.from_residual-in_err-answer.ensures.1 in
-    rw (p.1, p.2) (made (push_error a.message a.span) (lent a.stream.now a.room.now a.opens.now) c.in_ok-record_of.ensures.record done_told c.push_error.ensures c.in_err-answer.was refl)
+    let p = err_from_is_err_and c.from_residual-in_err-given.result c.from_residual-in_err-given.ensures.1 in
+    rw (p.1, p.2) (made (push_error a.message a.span) (lent a.stream.now a.room.now a.opens.now) c.in_ok-record_of.ensures.record done_told c.push_error-given.ensures c.in_err-given.was refl)
 
 pub returns : goal.returns
 returns c =
     let a = c.args in
-    made (push_error a.message a.span) (lent a.stream.now a.room.now a.opens.now) c.in_ok-record_of.ensures.record done_told c.push_error.ensures c.in_ok-answer.was c.store_last.ensures
+    made (push_error a.message a.span) (lent a.stream.now a.room.now a.opens.now) c.in_ok-record_of.ensures.record done_told c.push_error-given.ensures c.in_ok-given.was c.store_last.ensures
