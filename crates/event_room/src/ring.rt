@@ -1,5 +1,6 @@
-// The events in the ring of slots: the slot of a position from the front, and the event there.
-ghost use Rattle.std.specs.Prelude.{◌≡◌, ◌-◌};
+// The events in the ring of slots: the slot of a position from the front, and the event there. Room, slots and front are parameters and no
+// struct: one call reads the room and one writes it, so there would have to be two structs, and the calls' promises speak of any slots.
+ghost use Rattle.std.specs.Prelude.{◌≡◌};
 ghost use Rattle.event_room.specs.Room.{slot_of, write, read};
 
 use crate::{read, write};
@@ -10,19 +11,12 @@ use rooms::Slot;
 pub fn slot_of(slots: usize, front: Slot, i: Position) -> Slot
     ensures { result ≡ slot_of slots front i.0 }
 {
-    let ahead = slots_ahead(slots, front);
+    let ahead = slots.saturating_sub(front.0);
     if i.0 < ahead {
         Slot(front.0 + i.0)
     } else {
         Slot(i.0 - ahead)
     }
-}
-
-// How many slots of a ring lie from its front on.
-fn slots_ahead(slots: usize, front: Slot) -> usize
-    ensures { result ≡ slots - front.0 }
-{
-    if front.0 < slots { slots - front.0 } else { 0 }
 }
 
 // The event at a position.

@@ -12,14 +12,12 @@ pub(crate) fn is_balanced(room: &[u32], front: Slot, from: Position, count: usiz
 {
     let slots = event_room::slots(room.len());
     let mut depth: usize = 0;
-    let mut i = from.0;
-    while i < count {
+    for i in from.0..count {
         let event = event_room::event_at(room, slots, front, Position(i));
         if is_unmatched(depth, event) {
             return false;
         }
         depth = depth_behind(depth, event);
-        i += 1;
     }
     depth == 0
 }
@@ -37,11 +35,9 @@ fn depth_behind(depth: usize, event: Event) -> usize
     requires event_value { unmatched depth event ≡ false }
     ensures { result ≡ depth-behind depth event }
 {
-    if event.tag == BEGIN {
-        depth + 1
-    } else if event.tag == END {
-        depth - 1
-    } else {
-        depth
+    match event.tag {
+        BEGIN => depth + 1,
+        END => depth - 1,
+        _ => depth,
     }
 }

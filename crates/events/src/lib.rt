@@ -32,7 +32,7 @@ pub const BOOKMARKS: u32 = 65535;
 // The stream's own record. `slots` and `places` are how many event slots and open places were lent at opening; `front` is the slot of the
 // first of `count` events; `opened` nodes are open, `bookmarks` live; `last` is the last token, `gone` the last token popped, and
 // `popped` says whether anything was popped.
-#[derive(Clone, Copy)]
+#[derive(Clone, Copy, Debug, PartialEq, Eq)]
 pub struct Stream {
     pub slots: usize,
     pub places: usize,
@@ -108,14 +108,8 @@ impl Stream {
     fn spare(self) -> usize
         ensures { result ≡ self.slots - (self.count + self.opened) }
     {
-        if self.slots < self.opened {
-            return 0;
-        }
-        let left = self.slots - self.opened;
-        if left < self.count {
-            0
-        } else {
-            left - self.count
-        }
+        self.slots
+            .saturating_sub(self.opened)
+            .saturating_sub(self.count)
     }
 }

@@ -11,10 +11,8 @@ pub(crate) fn last_token(room: &[u32], front: Slot, count: usize, gone: Span) ->
     ensures { result ≡ last_token gone (listed room.now front 0 count) }
 {
     let slots = event_room::slots(room.len());
-    let mut left = count;
-    while 0 < left {
-        left -= 1;
-        let event = event_room::event_at(room, slots, front, Position(left));
+    for i in (0..count).rev() {
+        let event = event_room::event_at(room, slots, front, Position(i));
         if event.tag == TOKEN {
             return event.span;
         }

@@ -13,20 +13,12 @@ pub const MODES: u32 = 3;
 pub fn of(number: u32) -> Mode
     ensures { result ≡ mode_of number }
 {
-    match number {
-        0 => Mode::Normal,
-        1 => Mode::HexPattern,
-        _ => Mode::HexJump,
-    }
+    Mode::try_from(number).unwrap_or(Mode::HexJump)
 }
 
 // The number of a mode.
 pub fn number(mode: Mode) -> u32
     ensures { result ≡ number_of mode }
 {
-    match mode {
-        Mode::Normal => 0,
-        Mode::HexPattern => 1,
-        Mode::HexJump => 2,
-    }
+    u32::from(mode)
 }

@@ -2,5 +2,5 @@
 #![tactic(auto)]
 
 // A slot of a room, counted from its start.
-#[derive(Clone, Copy)]
+#[derive(Clone, Copy, Debug, PartialEq, Eq)]
 pub struct Slot(pub usize);

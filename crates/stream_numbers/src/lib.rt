@@ -139,5 +139,5 @@ pub fn is_forged(numbers: Numbers) -> bool
 fn truth(b: bool) -> u32
     ensures { result ≡ truth_number b }
 {
-    if b { 1 } else { 0 }
+    u32::from(b)
 }

@@ -7,9 +7,9 @@ use Rattle.event_room.proofs.ring.slot_of.Goals as goal
 pub returns-then-i-ahead : goal.returns-then-i-ahead
 returns-then-i-ahead c =
     let a = c.args in
-    sym (slot_ahead a.slots a.front a.i.0 c.slots_ahead-ahead.ensures c.if-i-ahead.true)
+    sym (slot_ahead a.slots a.front a.i.0 c.saturating_sub-ahead.ensures c.if-i-ahead.true)
 
 pub returns-else-i-ahead : goal.returns-else-i-ahead
 returns-else-i-ahead c =
     let a = c.args in
-    sym (slot_behind a.slots a.front a.i.0 c.slots_ahead-ahead.ensures c.if-i-ahead.false)
+    sym (slot_behind a.slots a.front a.i.0 c.saturating_sub-ahead.ensures c.if-i-ahead.false)

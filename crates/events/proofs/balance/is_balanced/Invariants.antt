@@ -8,7 +8,4 @@ use Rattle.events.proofs.balance.is_balanced.Given as goal
 abbrev pub invariant-loop-i : goal.invariant-loop-i
 invariant-loop-i l =
     (l.depth ≤ l.i) × (l.slots ≡ slots_in (length l.room))
-    × (balanced l.depth (listed l.room l.front l.i (l.count - l.i)) ≡ balanced 0 (drop l.initial.i (listed l.room l.front 0 l.count)))
-
-abbrev pub decreases-loop-i : goal.decreases-loop-i
-decreases-loop-i l = l.count - l.i
+    × (balanced l.depth (listed l.room l.front l.i (l.count - l.i)) ≡ balanced 0 (drop l.fn.from.0 (listed l.room l.front 0 l.count)))
