@@ -1,9 +1,10 @@
-// The operators of normal mode. A hit of kind 0 and length 0 says that there is none.
+// The operators of normal mode.
 #![tactic(auto)]
 
 ghost use Rattle.std.specs.Prelude.{◌≡◌, map, drop};
 ghost use Rattle.tokens.specs.Tokens.{spelled, operators};
 ghost use Rattle.tokens.specs.Scan.{best};
+ghost use Rattle.places.specs.Signs.{matched};
 
 mod signs;
 
@@ -11,46 +12,47 @@ pub use signs::{hex_byte, jump_operator, newline, pattern_operator};
 use tokens::Hit;
 
 // The operator at a place.
-pub fn operator(src: &[u8], at: usize) -> Hit
-    ensures { result ≡ best (map spelled operators) (drop at src.now) }
+pub fn operator(src: &[u8], at: usize) -> Option<Hit>
+    ensures { result ≡ matched (best (map spelled operators) (drop at src.now)) }
 {
-    match places::byte_at(src, at) {
+    let (kind, len) = match places::byte_at(src, at) {
         b'<' => match places::byte_at(src, at + 1) {
-            b'<' => Hit { kind: 41, len: 2 },
-            b'=' => Hit { kind: 45, len: 2 },
-            _ => Hit { kind: 47, len: 1 },
+            b'<' => (41, 2),
+            b'=' => (45, 2),
+            _ => (47, 1),
         },
         b'>' => match places::byte_at(src, at + 1) {
-            b'>' => Hit { kind: 42, len: 2 },
-            b'=' => Hit { kind: 46, len: 2 },
-            _ => Hit { kind: 48, len: 1 },
+            b'>' => (42, 2),
+            b'=' => (46, 2),
+            _ => (48, 1),
         },
         b'=' => match places::byte_at(src, at + 1) {
-            b'=' => Hit { kind: 43, len: 2 },
-            _ => Hit { kind: 55, len: 1 },
+            b'=' => (43, 2),
+            _ => (55, 1),
         },
         b'!' => match places::byte_at(src, at + 1) {
-            b'=' => Hit { kind: 44, len: 2 },
-            _ => Hit { kind: 0, len: 0 },
+            b'=' => (44, 2),
+            _ => return None,
         },
-        b'&' => Hit { kind: 49, len: 1 },
-        b'*' => Hit { kind: 50, len: 1 },
-        b'\\' => Hit { kind: 51, len: 1 },
-        b':' => Hit { kind: 52, len: 1 },
-        b',' => Hit { kind: 53, len: 1 },
-        b'.' => Hit { kind: 54, len: 1 },
-        b'+' => Hit { kind: 56, len: 1 },
-        b'-' => Hit { kind: 57, len: 1 },
-        b'%' => Hit { kind: 58, len: 1 },
-        b'|' => Hit { kind: 59, len: 1 },
-        b'^' => Hit { kind: 60, len: 1 },
-        b'~' => Hit { kind: 61, len: 1 },
-        b'{' => Hit { kind: 62, len: 1 },
-        b'}' => Hit { kind: 63, len: 1 },
-        b'(' => Hit { kind: 64, len: 1 },
-        b')' => Hit { kind: 65, len: 1 },
-        b'[' => Hit { kind: 66, len: 1 },
-        b']' => Hit { kind: 67, len: 1 },
-        _ => Hit { kind: 0, len: 0 },
-    }
+        b'&' => (49, 1),
+        b'*' => (50, 1),
+        b'\\' => (51, 1),
+        b':' => (52, 1),
+        b',' => (53, 1),
+        b'.' => (54, 1),
+        b'+' => (56, 1),
+        b'-' => (57, 1),
+        b'%' => (58, 1),
+        b'|' => (59, 1),
+        b'^' => (60, 1),
+        b'~' => (61, 1),
+        b'{' => (62, 1),
+        b'}' => (63, 1),
+        b'(' => (64, 1),
+        b')' => (65, 1),
+        b'[' => (66, 1),
+        b']' => (67, 1),
+        _ => return None,
+    };
+    Some(Hit { kind, len })
 }

@@ -1,15 +1,16 @@
-// Newlines, hex bytes, and the operators of the hex modes. A hit of kind 0 and length 0 says that there is none.
+// Newlines, hex bytes, and the operators of the hex modes.
 ghost use Rattle.std.specs.Prelude.{◌≡◌, ◌+◌, map, drop};
 ghost use Rattle.patterns.specs.Pattern.{longest};
 ghost use Rattle.tokens.specs.Tokens.{spelled, pattern_operators, jump_operators, newlines, hex_byte};
 ghost use Rattle.tokens.specs.Scan.{best};
+ghost use Rattle.places.specs.Signs.{matched};
 ghost use Rattle.operators.specs.HexByte.{Nibbles};
 
 use tokens::{Hit, NEWLINE};
 
 // The operator of pattern mode at a place.
-pub fn pattern_operator(src: &[u8], at: usize) -> Hit
-    ensures { result ≡ best (map spelled pattern_operators) (drop at src.now) }
+pub fn pattern_operator(src: &[u8], at: usize) -> Option<Hit>
+    ensures { result ≡ matched (best (map spelled pattern_operators) (drop at src.now)) }
 {
     let kind = match places::byte_at(src, at) {
         b'|' => 59,
@@ -17,24 +18,24 @@ pub fn pattern_operator(src: &[u8], at: usize) -> Hit
         b')' => 65,
         b'[' => 66,
         b']' => 67,
-        _ => return Hit { kind: 0, len: 0 },
+        _ => return None,
     };
-    Hit { kind, len: 1 }
+    Some(Hit { kind, len: 1 })
 }
 
 // The operator of jump mode at a place.
-pub fn jump_operator(src: &[u8], at: usize) -> Hit
-    ensures { result ≡ best (map spelled jump_operators) (drop at src.now) }
+pub fn jump_operator(src: &[u8], at: usize) -> Option<Hit>
+    ensures { result ≡ matched (best (map spelled jump_operators) (drop at src.now)) }
 {
-    if places::byte_at(src, at) == b'-' {
-        return Hit { kind: 57, len: 1 };
+    match places::byte_at(src, at) {
+        b'-' => Some(Hit { kind: 57, len: 1 }),
+        _ => None,
     }
-    Hit { kind: 0, len: 0 }
 }
 
 // The newline at a place.
-pub fn newline(src: &[u8], at: usize) -> Hit
-    ensures { result ≡ best (map spelled newlines) (drop at src.now) }
+pub fn newline(src: &[u8], at: usize) -> Option<Hit>
+    ensures { result ≡ matched (best (map spelled newlines) (drop at src.now)) }
 {
     let len = match places::byte_at(src, at) {
         b'\n' => 1,
@@ -42,19 +43,17 @@ pub fn newline(src: &[u8], at: usize) -> Hit
             b'\n' => 2,
             _ => 1,
         },
-        _ => return Hit { kind: 0, len: 0 },
+        _ => return None,
     };
-    Hit { kind: NEWLINE, len }
+    Some(Hit { kind: NEWLINE, len })
 }
 
 // Whether two nibbles stand at a place, each a hex digit or a question mark.
 fn nibbles_at(src: &[u8], at: usize) -> bool
     ensures { Nibbles src.now at result }
 {
-    if classes::is_hex_or_mark(places::byte_at(src, at)) {
-        return classes::is_hex_or_mark(places::byte_at(src, at + 1));
-    }
-    false
+    classes::is_hex_or_mark(places::byte_at(src, at))
+        && classes::is_hex_or_mark(places::byte_at(src, at + 1))
 }
 
 // The end of the hex byte at a place, or the place itself.

@@ -1,6 +1,6 @@
 -- Spellings of one or two bytes, none of them 0: which stands at a place is told by the byte there and the next one, 0 standing for
 -- the end. By induction on the spellings: a literal's longest match is all of it or nothing (literal_longest). Assumes nothing.
-use Rattle.std.specs.Prelude.{ℕ, ◌+◌, ◌<◌, ◌≡◌, refl, Bool, true, false, cond, ◌&&◌, List, [], ◌∷◌, map, length, get_or, drop, eqb, leb}
+use Rattle.std.specs.Prelude.{ℕ, ◌+◌, ◌<◌, ◌≡◌, refl, Bool, true, false, cond, ◌&&◌, List, [], ◌∷◌, map, length, get_or, drop, eqb, leb, Option, Some, None}
 use Rattle.std.proofs.Common.{sym, ap, ◌∙◌, true≢false, add-zero, arith, get_or-drop, ne_eqb, leb-true}
 use Rattle.std.proofs.Math.Bool.{and-true}
 use Rattle.std.proofs.lemmas.Bool.{false≢true}
@@ -21,6 +21,10 @@ taken [] a b = 0
 taken (x ∷ []) a b = cond (eqb a x) 1 0
 taken (x ∷ y ∷ []) a b = cond (eqb a x && eqb b y) 2 0
 taken (x ∷ y ∷ z ∷ zs) a b = 0
+
+-- a hit as the code has it: none where nothing is matched
+abbrev pub matched : Hit → Option Hit
+matched h = cond (leb 1 h.len) (Some h) None
 
 -- the best of some spellings where they stand
 abbrev pub told : List Spelling → ℕ → ℕ → Hit
@@ -82,15 +86,15 @@ module _ (ws : List Spelling) (tidy : each (λ w. short w.bytes) ws ≡ true) {s
   told_at : best (map spelled ws) (drop at s) ≡ told ws a (get_or s (at + 1) 0)
   told_at = best_told ws (drop at s) tidy ∙ rw (get_or-drop at s 0 0, get_or-drop at s 1 0, add-zero, r.is)
 
-  pub at_one : {x : ℕ} {h : Hit} → a ≡ x → h ≡ told ws x (get_or s (at + 1) 0) → h ≡ best (map spelled ws) (drop at s)
-  at_one e q = q ∙ sym (told_at ∙ rw e)
+  pub at_one : {x : ℕ} {h : Option Hit} → a ≡ x → h ≡ matched (told ws x (get_or s (at + 1) 0)) → h ≡ matched (best (map spelled ws) (drop at s))
+  at_one e q = q ∙ ap matched (sym (told_at ∙ rw e))
 
   -- with the next byte, and where that is known
-  pub at_next : {x b : ℕ} {h : Hit} → a ≡ x → Byte s (at + 1) b → h ≡ told ws x b → h ≡ best (map spelled ws) (drop at s)
+  pub at_next : {x b : ℕ} {h : Option Hit} → a ≡ x → Byte s (at + 1) b → h ≡ matched (told ws x b) → h ≡ matched (best (map spelled ws) (drop at s))
   at_next e n q = at_one e (q ∙ rw n.is)
 
-  pub at_two : {x b y : ℕ} {h : Hit} → a ≡ x → Byte s (at + 1) b → b ≡ y → h ≡ told ws x y → h ≡ best (map spelled ws) (drop at s)
+  pub at_two : {x b y : ℕ} {h : Option Hit} → a ≡ x → Byte s (at + 1) b → b ≡ y → h ≡ matched (told ws x y) → h ≡ matched (best (map spelled ws) (drop at s))
   at_two e n f q = at_next e n (q ∙ rw f)
 
-  pub at_none : (firsts : List ℕ) → each (λ w. one_of firsts (get_or w.bytes 0 0)) ws ≡ true → NoneOf firsts a → hit 0 0 ≡ best (map spelled ws) (drop at s)
-  at_none firsts e n = sym (told_at ∙ none_told firsts a (get_or s (at + 1) 0) (not_one firsts a n) ws e)
+  pub at_none : (firsts : List ℕ) → each (λ w. one_of firsts (get_or w.bytes 0 0)) ws ≡ true → NoneOf firsts a → None ≡ matched (best (map spelled ws) (drop at s))
+  at_none firsts e n = ap matched (sym (told_at ∙ none_told firsts a (get_or s (at + 1) 0) (not_one firsts a n) ws e))

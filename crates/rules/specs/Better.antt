@@ -1,9 +1,15 @@
 -- Which of two hits is taken: the first, or the other where the first is none or shorter. Assumes nothing.
-use Rattle.std.specs.Prelude.{◌≤◌, ◌<◌}
+use Rattle.std.specs.Prelude.{◌≤◌, ◌<◌, Option, Some, None, cond, leb}
 use Rattle.tokens.specs.declared.Hit.{Hit}
 
 -- the lengths decide which
 pub data Which (h g : Hit) : Type 0 where
   first : 1 ≤ h.len → g.len ≤ h.len → Which h g
   none : h.len < 1 → Which h g
-  longer : h.len < g.len → Which h g
+  shorter : h.len < g.len → Which h g
+
+-- the same of hits as the code has them
+abbrev pub longer : Option Hit → Option Hit → Option Hit
+longer None other = other
+longer (Some h) None = Some h
+longer (Some h) (Some g) = cond (leb g.len h.len) (Some h) (Some g)

@@ -1,33 +1,28 @@
-// Hits: that of one rule, and the longer of two. A hit of kind 0 and length 0 says that there is none.
+// Hits: that of one rule, and the longer of two.
 ghost use Rattle.std.specs.Prelude.{◌≡◌, ◌-◌};
-ghost use Rattle.tokens.specs.Scan.{hit, better};
+ghost use Rattle.tokens.specs.Scan.{hit};
+ghost use Rattle.places.specs.Signs.{matched};
+ghost use Rattle.rules.specs.Better.{longer};
 
 use tokens::Hit;
 
 // The hit of one rule, by where it ends; none where that is where it starts.
-pub(crate) fn one(kind: u32, at: usize, end: usize) -> Hit
-    ensures { result ≡ better (hit kind (end - at)) (hit 0 0) }
+pub(crate) fn one(kind: u32, at: usize, end: usize) -> Option<Hit>
+    ensures { result ≡ matched (hit kind (end - at)) }
 {
-    if end <= at {
-        return Hit { kind: 0, len: 0 };
-    }
-    Hit {
-        kind: kind,
+    (at < end).then(|| Hit {
+        kind,
         len: end - at,
-    }
+    })
 }
 
 // The first of two hits, unless the other is longer.
-pub(crate) fn longer(first: Hit, other: Hit) -> Hit
-    ensures { result ≡ better first other }
+pub(crate) fn longer(first: Option<Hit>, other: Option<Hit>) -> Option<Hit>
+    ensures { result ≡ longer first other }
 {
-    let n = first.len;
-    let m = other.len;
-    if n < 1 {
-        return other;
+    match (first, other) {
+        (Some(a), Some(b)) if a.len < b.len => other,
+        (None, _) => other,
+        _ => first,
     }
-    if n < m {
-        return other;
-    }
-    first
 }

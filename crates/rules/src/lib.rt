@@ -1,10 +1,10 @@
 // What is taken at a place of a source, in a mode: the mode's longest match, or what the modes after it take.
 #![tactic(auto)]
 
-ghost use Rattle.std.specs.Prelude.{◌≡◌, [], drop};
+ghost use Rattle.std.specs.Prelude.{◌≡◌, [], drop, MatchOption};
 ghost use Rattle.tokens.specs.declared.Mode.TheVariants.{Normal, HexPattern, HexJump};
 ghost use Rattle.tokens.specs.Tokens.{tables_1};
-ghost use Rattle.tokens.specs.Scan.{tried, choose};
+ghost use Rattle.tokens.specs.Scan.{tried, chosen, choose};
 ghost use Rattle.rules.specs.Choosing.{unknown_of};
 
 mod hex_modes;
@@ -12,7 +12,7 @@ mod hits;
 mod normal_mode;
 mod spacing;
 
-use tokens::{Choice, Mode, Offset};
+use tokens::{Choice, Hit, Mode, Offset};
 
 // What is taken at a place, in a mode.
 pub fn taken(mode: Mode, src: &[u8], at: Offset) -> Choice
@@ -30,44 +30,39 @@ pub fn taken(mode: Mode, src: &[u8], at: Offset) -> Choice
 fn jump(src: &[u8], at: usize) -> Choice
     ensures { result ≡ choose tables_1 (tried HexJump) (drop at src.now) }
 {
-    let hit = hex_modes::jump(src, at);
-    if hit.len == 0 {
-        return pattern(src, at);
-    }
-    Choice {
-        kind: hit.kind,
-        len: hit.len,
-        mode: Mode::HexJump,
-    }
+    hit_or(hex_modes::jump(src, at), Mode::HexJump, || pattern(src, at))
 }
 
 // Pattern mode's hit, or what normal mode takes.
 fn pattern(src: &[u8], at: usize) -> Choice
     ensures { result ≡ choose tables_1 (tried HexPattern) (drop at src.now) }
 {
-    let hit = hex_modes::pattern(src, at);
-    if hit.len == 0 {
-        return normal(src, at);
-    }
-    Choice {
-        kind: hit.kind,
-        len: hit.len,
-        mode: Mode::HexPattern,
-    }
+    hit_or(
+        hex_modes::pattern(src, at),
+        Mode::HexPattern,
+        || normal(src, at),
+    )
 }
 
 // Normal mode's hit, or what is taken where no rule matches.
 fn normal(src: &[u8], at: usize) -> Choice
     ensures { result ≡ choose tables_1 (tried Normal) (drop at src.now) }
 {
-    let hit = normal_mode::normal(src, at);
-    if hit.len == 0 {
-        return unmatched(src, at);
-    }
-    Choice {
-        kind: hit.kind,
-        len: hit.len,
-        mode: Mode::Normal,
+    hit_or(
+        normal_mode::normal(src, at),
+        Mode::Normal,
+        || unmatched(src, at),
+    )
+}
+
+// The hit in its mode; where there is none, what is taken next.
+fn hit_or<F: FnOnce() -> Choice>(hit: Option<Hit>, mode: Mode, next: F) -> Choice
+    requires { F.IsAlwaysCallable next }
+    ensures { MatchOption hit (F.post next result) (λ h. result ≡ chosen h.kind h.len mode) }
+{
+    match hit {
+        Some(Hit { kind, len }) => Choice { kind, len, mode },
+        None => next(),
     }
 }
 

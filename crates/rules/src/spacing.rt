@@ -1,6 +1,7 @@
 // Blanks and newlines, which every mode has.
 ghost use Rattle.std.specs.Prelude.{◌≡◌, drop};
 ghost use Rattle.tokens.specs.Scan.{best};
+ghost use Rattle.places.specs.Signs.{matched};
 ghost use Rattle.rules.specs.First as first;
 ghost use Rattle.rules.specs.Families.{spacing_rules};
 
@@ -15,8 +16,8 @@ pub(crate) fn is_spacing(b: u8) -> bool
 }
 
 // The blanks or the newline at a place.
-pub(crate) fn spacing(src: &[u8], at: usize) -> Hit
-    ensures { result ≡ best spacing_rules (drop at src.now) }
+pub(crate) fn spacing(src: &[u8], at: usize) -> Option<Hit>
+    ensures { result ≡ matched (best spacing_rules (drop at src.now)) }
 {
     let blanks = hits::one(tokens::WHITESPACE, at, spaces::blanks(src, at));
     hits::longer(blanks, operators::newline(src, at))

@@ -1,12 +1,12 @@
 -- `jump_operator` meets its contract: the byte at the place is `-` or it is not, and so it tells.
 -- Assumes nothing.
-use Rattle.std.proofs.Common.{refl, [], ◌∷◌}
+use Rattle.std.proofs.Common.{refl, [], ◌∷◌, rules}
 use Rattle.tokens.specs.Tokens.{jump_operators}
 use Rattle.places.specs.Signs.{at_one, at_none}
 use Rattle.operators.proofs.signs.jump_operator.Goals as goal
 
-pub returns-then-byte_at-eq45 : goal.returns-then-byte_at-eq45
-returns-then-byte_at-eq45 c = at_one jump_operators refl c.byte_at.ensures c.if-byte_at-eq45.true refl
+pub returns-in-45 : goal.returns-in-45
+returns-in-45 c = at_one jump_operators refl c.byte_at.ensures c.in-45.is refl
 
-pub returns : goal.returns
-returns c = at_none jump_operators refl c.byte_at.ensures (45 ∷ []) refl (tt, c.if-byte_at-eq45.false)
+pub returns-in_default : goal.returns-in_default
+returns-in_default c = at_none jump_operators refl c.byte_at.ensures (45 ∷ []) refl (search rules)

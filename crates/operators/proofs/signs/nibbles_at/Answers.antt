@@ -12,5 +12,5 @@ returns-then-is_hex_or_mark c =
     by_second c.byte_at.ensures c.is_hex_or_mark.ensures c.if-is_hex_or_mark.true c.byte_at-then-is_hex_or_mark.ensures
     c.is_hex_or_mark-then-is_hex_or_mark.ensures
 
-pub returns : goal.returns
-returns c = by_first c.byte_at.ensures c.is_hex_or_mark.ensures c.if-is_hex_or_mark.false
+pub returns-else-is_hex_or_mark : goal.returns-else-is_hex_or_mark
+returns-else-is_hex_or_mark c = by_first c.byte_at.ensures c.is_hex_or_mark.ensures c.if-is_hex_or_mark.false

@@ -20,7 +20,7 @@ returns-then-is_dec c =
     of_rule a.src.now a.at INTEGER_LIT jump_integer c.one.ensures c.jump_integer.ensures
     ∙ at_jump_integer (first_byte c.byte_at-b.ensures (omega arith)) (sym c.is_spacing.ensures ∙ c.if-is_spacing.false) (sym c.is_dec.ensures ∙ c.if-is_dec.true)
 
-pub returns : goal.returns
-returns c =
+pub returns-else-is_dec : goal.returns-else-is_dec
+returns-else-is_dec c =
     c.jump_operator.ensures
     ∙ at_jump_operator (first_byte c.byte_at-b.ensures (omega arith)) (sym c.is_spacing.ensures ∙ c.if-is_spacing.false) (sym c.is_dec.ensures ∙ c.if-is_dec.false)

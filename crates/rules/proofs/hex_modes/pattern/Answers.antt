@@ -1,10 +1,10 @@
 -- By the first byte one family of rules is left (specs/Families), and that family's hit is the answer.
 -- Assumes nothing.
-use Rattle.std.proofs.Common.{refl, sym, ap, ◌∙◌, Bool, ◌||◌, arith, eqb}
+use Rattle.std.proofs.Common.{refl, sym, ap, ◌∙◌, Bool, ◌||◌, arith, eqb, rules}
 use Rattle.tokens.specs.Kinds.{HEX_BYTE}
 use Rattle.tokens.specs.declared.Mode.TheVariants.{HexPattern}
 use Rattle.tokens.specs.Tokens.{hex_byte}
-use Rattle.tokens.specs.Scan.{rules}
+use Rattle.tokens.specs.Scan as scan
 use Rattle.rules.proofs.Better.{of_rule}
 use Rattle.rules.proofs.First.{first_byte}
 use Rattle.rules.specs.First.{first_kinds}
@@ -23,13 +23,13 @@ returns-then-is_hex_or_mark-b c =
     of_rule a.src.now a.at HEX_BYTE hex_byte c.one.ensures c.hex_byte.ensures
     ∙ at_hex (first_byte c.byte_at-b.ensures (omega arith)) (sym c.is_spacing.ensures ∙ c.if-is_spacing.false) ((ap (λ (t : Bool). t || eqb c.byte_at-b.result 126) (sym c.is_hex_or_mark.ensures)) ∙ c.if-is_hex_or_mark-b.true)
 
-pub returns-then-b-eq47 : goal.returns-then-b-eq47
-unfolding first_kinds rules
-returns-then-b-eq47 c =
+pub returns-in-47 : goal.returns-in-47
+unfolding first_kinds scan.rules
+returns-in-47 c =
     c.commented.ensures
-    ∙ exact (first_byte c.byte_at-b.ensures (omega arith)) HexPattern 47 comment_rules refl c.if-b-eq47.true
+    ∙ exact (first_byte c.byte_at-b.ensures (omega arith)) HexPattern 47 comment_rules refl c.in-47.is
 
-pub returns : goal.returns
-returns c =
+pub returns-in_default-3 : goal.returns-in_default-3
+returns-in_default-3 c =
     c.pattern_operator.ensures
-    ∙ at_pattern_operator (first_byte c.byte_at-b.ensures (omega arith)) (sym c.is_spacing.ensures ∙ c.if-is_spacing.false) ((ap (λ (t : Bool). t || eqb c.byte_at-b.result 126) (sym c.is_hex_or_mark.ensures)) ∙ c.if-is_hex_or_mark-b.false) c.if-b-eq47.false
+    ∙ at_pattern_operator (first_byte c.byte_at-b.ensures (omega arith)) (sym c.is_spacing.ensures ∙ c.if-is_spacing.false) ((ap (λ (t : Bool). t || eqb c.byte_at-b.result 126) (sym c.is_hex_or_mark.ensures)) ∙ c.if-is_hex_or_mark-b.false) (search rules)

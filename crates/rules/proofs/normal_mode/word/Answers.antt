@@ -3,12 +3,12 @@
 use Rattle.rules.proofs.Words.{tail_within, word_hit}
 use Rattle.rules.proofs.normal_mode.word.Goals as goal
 
-pub slice_bounds-word-end : goal.slice_bounds-word-end
-slice_bounds-word-end c =
+pub slice_bounds-keyword-end : goal.slice_bounds-keyword-end
+slice_bounds-keyword-end c =
     let a = c.args in
     tail_within a.src.now a.at c.word_tail-end.result c.requires.0 c.word_tail-end.ensures
 
 pub returns : goal.returns
 returns c =
     let a = c.args in
-    word_hit a.src.now a.at c.word_tail-end.result c.keyword-kind.result c.requires.0 c.requires.1 c.word_tail-end.ensures c.keyword-kind.ensures
+    word_hit a.src.now a.at c.word_tail-end.result c.keyword.result c.requires.0 c.requires.1 c.word_tail-end.ensures c.keyword.ensures
