@@ -26,6 +26,11 @@ taken (x ∷ y ∷ z ∷ zs) a b = 0
 abbrev pub matched : Hit → Option Hit
 matched h = cond (leb 1 h.len) (Some h) None
 
+-- and as the definition has it: a kind and a length, both 0 where there is none
+abbrev pub hit_of : Option Hit → Hit
+hit_of None = hit 0 0
+hit_of (Some h) = h
+
 -- the best of some spellings where they stand
 abbrev pub told : List Spelling → ℕ → ℕ → Hit
 told [] a b = hit 0 0

@@ -10,8 +10,8 @@ use Rattle.patterns.specs.Pattern.{Pat, nullable, walk, longest}
 use Rattle.tokens.specs.declared.Hit.{Hit}
 use Rattle.tokens.specs.Tokens.{Rule, rule}
 use Rattle.tokens.specs.Scan.{hit, better, best}
-use Rattle.rules.specs.Better.{Which, first, shorter, none, longer}
-use Rattle.places.specs.Signs.{matched}
+use Rattle.rules.specs.Better.{Which, first, longer, none, longer_hit}
+use Rattle.places.specs.Signs.{matched, hit_of}
 
 -- the first is taken
 pub better_first : (h g : Hit) → 1 ≤ h.len → g.len ≤ h.len → better h g ≡ h
@@ -30,7 +30,7 @@ which h g = go (leb 1 h.len) (leb g.len h.len) refl refl
   where
     go : (t u : Bool) → leb 1 h.len ≡ t → leb g.len h.len ≡ u → Which h g
     go true true a b = first (leb-true 1 h.len a) (leb-true g.len h.len b)
-    go true false a b = shorter (leb-false g.len h.len b)
+    go true false a b = longer (leb-false g.len h.len b)
     go false u a b = none (leb-false 1 h.len a)
 
 better_assoc : (h g f : Hit) → better h (better g f) ≡ better (better h g) f
@@ -38,11 +38,11 @@ better_assoc h g f = go (which h g) (which g f)
   where
     go : Which h g → Which g f → better h (better g f) ≡ better (better h g) f
     go (none a) w = better_none h (better g f) a ∙ ap (λ (x : Hit). better x f) (sym (better_none h g a))
-    go (shorter a) (none b) = absurd (omega arith)
-    go (shorter a) (first b c) = ap (better h) (better_first g f b c) ∙ better_longer h g a ∙ sym (ap (λ (x : Hit). better x f) (better_longer h g a) ∙ better_first g f b c)
-    go (shorter a) (shorter b) = ap (better h) (better_longer g f b) ∙ better_longer h f (omega arith) ∙ sym (ap (λ (x : Hit). better x f) (better_longer h g a) ∙ better_longer g f b)
+    go (longer a) (none b) = absurd (omega arith)
+    go (longer a) (first b c) = ap (better h) (better_first g f b c) ∙ better_longer h g a ∙ sym (ap (λ (x : Hit). better x f) (better_longer h g a) ∙ better_first g f b c)
+    go (longer a) (longer b) = ap (better h) (better_longer g f b) ∙ better_longer h f (omega arith) ∙ sym (ap (λ (x : Hit). better x f) (better_longer h g a) ∙ better_longer g f b)
     go (first a b) (none c) = ap (better h) (better_none g f c) ∙ sym (ap (λ (x : Hit). better x f) (better_first h g a b))
-    go (first a b) (shorter c) = ap (better h) (better_longer g f c) ∙ sym (ap (λ (x : Hit). better x f) (better_first h g a b))
+    go (first a b) (longer c) = ap (better h) (better_longer g f c) ∙ sym (ap (λ (x : Hit). better x f) (better_first h g a b))
     go (first a b) (first c d) =
         ap (better h) (better_first g f c d) ∙ better_first h g a b ∙ sym (ap (λ (x : Hit). better x f) (better_first h g a b) ∙ better_first h f a (omega arith))
 
@@ -64,26 +64,39 @@ best_empty (r ∷ rs) = go (nullable r.pattern) (best_empty rs)
 
 -- The hits that the code puts together, at a place of a source.
 
--- what no rule matches has no hit, and any other hit is told whole
+-- where no rule matches there is none, and any other hit is told whole
 pub matched_some : (h : Hit) → 1 ≤ h.len → Some h ≡ matched h
 matched_some h l = rw (le-leb 1 h.len l)
 
 pub matched_none : (h : Hit) → h.len < 1 → None ≡ matched h
 matched_none h l = rw (lt-leb 1 h.len l)
 
-longer_matched : (h g : Hit) → longer (matched h) (matched g) ≡ matched (better h g)
+-- which of them it is says all of the longest match
+pub matched_whole : (rs : List Rule) (s : List ℕ) → best rs s ≡ hit_of (matched (best rs s))
+unfolding best
+matched_whole [] s = refl
+matched_whole (r ∷ rs) s = go (which (hit r.kind (longest r.pattern s)) (best rs s)) (matched_whole rs s)
+  where
+    go : Which (hit r.kind (longest r.pattern s)) (best rs s) → best rs s ≡ hit_of (matched (best rs s)) → best (r ∷ rs) s ≡ hit_of (matched (best (r ∷ rs) s))
+    go (none a) e = better_none (hit r.kind (longest r.pattern s)) (best rs s) a ∙ e ∙ ap (λ (h : Hit). hit_of (matched h)) (sym (better_none (hit r.kind (longest r.pattern s)) (best rs s) a))
+    go (longer a) e = better_longer (hit r.kind (longest r.pattern s)) (best rs s) a ∙ e ∙ ap (λ (h : Hit). hit_of (matched h)) (sym (better_longer (hit r.kind (longest r.pattern s)) (best rs s) a))
+    go (first a b) e =
+        let h : Hit = hit r.kind (longest r.pattern s) in
+        better_first h (best rs s) a b ∙ ap hit_of (matched_some h a) ∙ ap (λ (h : Hit). hit_of (matched h)) (sym (better_first h (best rs s) a b))
+
+longer_matched : (h g : Hit) → longer_hit (matched h) (matched g) ≡ matched (better h g)
 longer_matched h g = go (which h g)
   where
-    go : Which h g → longer (matched h) (matched g) ≡ matched (better h g)
+    go : Which h g → longer_hit (matched h) (matched g) ≡ matched (better h g)
     go (none a) = rw (better_none h g a, ← matched_none h a)
-    go (shorter a) = rw (better_longer h g a, ← matched_some g (omega arith)) (over (leb 1 h.len))
+    go (longer a) = rw (better_longer h g a, ← matched_some g (omega arith)) (over (leb 1 h.len))
       where
-        over : (t : Bool) → longer (cond t (Some h) None) (Some g) ≡ Some g
+        over : (t : Bool) → longer_hit (cond t (Some h) None) (Some g) ≡ Some g
         over true = rw (lt-leb g.len h.len a)
         over false = refl
     go (first a b) = rw (better_first h g a b, ← matched_some h a) (over (leb 1 g.len))
       where
-        over : (t : Bool) → longer (Some h) (cond t (Some g) None) ≡ Some h
+        over : (t : Bool) → longer_hit (Some h) (cond t (Some g) None) ≡ Some h
         over true = rw (le-leb g.len h.len b)
         over false = refl
 
@@ -92,7 +105,7 @@ matched_alone h = go (which h (hit 0 0))
   where
     go : Which h (hit 0 0) → matched h ≡ matched (better h (hit 0 0))
     go (none a) = sym (matched_none h a) ∙ ap matched (sym (better_none h (hit 0 0) a))
-    go (shorter a) = absurd (omega arith)
+    go (longer a) = absurd (omega arith)
     go (first a b) = ap matched (sym (better_first h (hit 0 0) a b))
 
 module _ (s : List ℕ) (at : ℕ) where
@@ -102,9 +115,9 @@ module _ (s : List ℕ) (at : ℕ) where
   of_rule k p {e} q r = let n : e - at ≡ longest p (drop at s) = omega arith in q ∙ ap (λ (n : ℕ). matched (hit k n)) n ∙ matched_alone (hit k (longest p (drop at s)))
 
   -- of two lists
-  pub of_both : (xs ys : List Rule) {h g r : Option Hit} → r ≡ longer h g → h ≡ matched (best xs (drop at s)) → g ≡ matched (best ys (drop at s)) → r ≡ matched (best (xs ++ ys) (drop at s))
+  pub of_both : (xs ys : List Rule) {h g r : Option Hit} → r ≡ longer_hit h g → h ≡ matched (best xs (drop at s)) → g ≡ matched (best ys (drop at s)) → r ≡ matched (best (xs ++ ys) (drop at s))
   of_both xs ys {h} q a b =
-      q ∙ ap (longer h) b ∙ ap (λ (x : Option Hit). longer x (matched (best ys (drop at s)))) a ∙ longer_matched (best xs (drop at s)) (best ys (drop at s))
+      q ∙ ap (longer_hit h) b ∙ ap (λ (x : Option Hit). longer_hit x (matched (best ys (drop at s)))) a ∙ longer_matched (best xs (drop at s)) (best ys (drop at s))
       ∙ ap matched (sym (best_append xs ys (drop at s)))
 
   -- of any rules at the end of the source

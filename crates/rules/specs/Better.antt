@@ -6,10 +6,10 @@ use Rattle.tokens.specs.declared.Hit.{Hit}
 pub data Which (h g : Hit) : Type 0 where
   first : 1 ≤ h.len → g.len ≤ h.len → Which h g
   none : h.len < 1 → Which h g
-  shorter : h.len < g.len → Which h g
+  longer : h.len < g.len → Which h g
 
 -- the same of hits as the code has them
-abbrev pub longer : Option Hit → Option Hit → Option Hit
-longer None other = other
-longer (Some h) None = Some h
-longer (Some h) (Some g) = cond (leb g.len h.len) (Some h) (Some g)
+abbrev pub longer_hit : Option Hit → Option Hit → Option Hit
+longer_hit None other = other
+longer_hit (Some h) None = Some h
+longer_hit (Some h) (Some g) = cond (leb g.len h.len) (Some h) (Some g)

@@ -2,7 +2,7 @@
 ghost use Rattle.std.specs.Prelude.{◌≡◌, ◌-◌};
 ghost use Rattle.tokens.specs.Scan.{hit};
 ghost use Rattle.places.specs.Signs.{matched};
-ghost use Rattle.rules.specs.Better.{longer};
+ghost use Rattle.rules.specs.Better.{longer_hit};
 
 use tokens::Hit;
 
@@ -18,7 +18,7 @@ pub(crate) fn one(kind: u32, at: usize, end: usize) -> Option<Hit>
 
 // The first of two hits, unless the other is longer.
 pub(crate) fn longer(first: Option<Hit>, other: Option<Hit>) -> Option<Hit>
-    ensures { result ≡ longer first other }
+    ensures { result ≡ longer_hit first other }
 {
     match (first, other) {
         (Some(a), Some(b)) if a.len < b.len => other,

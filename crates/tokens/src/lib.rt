@@ -104,15 +104,15 @@ pub struct Token {
     pub end: Offset,
 }
 
-// The longest match of some rules: a kind and a length, both 0 where none matches.
-#[derive(Clone, Copy)]
+// The longest match of some rules: a kind and a length. In the definition both are 0 where none matches; the code then has no hit.
+#[derive(Clone, Copy, Debug, PartialEq, Eq)]
 pub struct Hit {
     pub kind: u32,
     pub len: usize,
 }
 
 // What is taken at a place: a kind, a length, and the mode reached.
-#[derive(Clone, Copy)]
+#[derive(Clone, Copy, Debug, PartialEq, Eq)]
 pub struct Choice {
     pub kind: u32,
     pub len: usize,
