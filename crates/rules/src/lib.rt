@@ -85,16 +85,9 @@ fn unknown(src: &[u8], at: usize) -> Choice
     ensures { result ≡ unknown_of (drop at src.now) }
 {
     let end = spaces::plain_text(src, at);
-    if end <= at {
-        return Choice {
-            kind: tokens::UNKNOWN,
-            len: 1,
-            mode: Mode::Normal,
-        };
-    }
     Choice {
         kind: tokens::UNKNOWN,
-        len: end - at,
+        len: (end - at).max(1),
         mode: Mode::Normal,
     }
 }
