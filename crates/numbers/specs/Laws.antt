@@ -1,6 +1,8 @@
 -- How the parts make up integers and floats: a prefix leaves the digits of its base; decimal digits leave a suffix or a fraction. Each
 -- residual is computed at a fixed byte, or follows from the classes that it does not begin with. Assumes nothing.
-use Rattle.std.specs.Prelude.{ℕ, ◌+◌, ◌<◌, ◌≤◌, ◌≡◌, Bool, false, ◌||◌, ◌&&◌, List, ◌⊎◌, get_or, drop}
+use Rattle.std.specs.Prelude.{ℕ, suc, cond, ◌+◌, ◌<◌, ◌≤◌, ◌≡◌, Bool, false, ◌||◌, ◌&&◌, List, [], ◌∷◌, ◌⊎◌, get_or, drop}
+use Rattle.std.specs.List.{prefix_len, take_while}
+use Rattle.std.proofs.lemmas.List.Folds.{length-prefix_len}
 use Rattle.std.proofs.Math.Path.{refl}
 use Rattle.std.proofs.Common.{sym, ap, ◌∙◌, true≢false, arith, ne_eqb, eqb-true}
 use Rattle.std.proofs.Math.Bool.{true, or-false}
@@ -36,6 +38,19 @@ pub run_is : (base : Base) (t : Bool) (x : ℕ) → (digit base x || (t && eqb x
 unfolding run
 run_is base true x = refl
 run_is base false x = or-false (digit base x)
+
+-- as many bytes as are taken while they stand in the run
+span_is : (f : Class) (xs : List ℕ) → prefix_len f xs ≡ span f xs
+unfolding span
+span_is f [] = refl
+span_is f (x ∷ xs) = go (f x) (span_is f xs)
+  where
+    go : (t : Bool) {n m : ℕ} → n ≡ m → cond t (1 + n) 0 ≡ cond t (suc m) 0
+    go true e = omega arith
+    go false e = refl
+
+pub run_counted : (f : Class) (xs : List ℕ) → length (take_while f xs) ≡ span f xs
+run_counted f xs = length-prefix_len f xs ∙ span_is f xs
 
 -- Suffixes and fractions.
 

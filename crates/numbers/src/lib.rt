@@ -1,7 +1,7 @@
 // Numbers: the integers and the floats of normal mode, and the integers of jump mode.
 #![tactic(auto)]
 
-ghost use Rattle.std.specs.Prelude.{◌≡◌, ◌+◌, drop};
+ghost use Rattle.std.specs.Prelude.{◌≡◌, ◌+◌, ◌<◌, ◌≤◌, ℕ, drop, length, unwrap_or, IfSome};
 ghost use Rattle.patterns.specs.Pattern.{walk, longest};
 ghost use Rattle.patterns.specs.Walk.{span};
 ghost use Rattle.tokens.specs.Tokens.{integer, float, jump_integer};
@@ -10,34 +10,46 @@ ghost use Rattle.numbers.specs.Parts.{digit, run, digits, base_at, suffix, fract
 use places::has_byte;
 
 // Where the integer and the float end that start at one place; the place itself where there is none.
-#[derive(Clone, Copy)]
+#[derive(Clone, Copy, Debug, PartialEq, Eq)]
 pub struct Ends {
     pub integer: usize,
     pub float: usize,
 }
 
 // The bases of integers.
-#[derive(Clone, Copy)]
+#[derive(Clone, Copy, Debug, PartialEq, Eq)]
 enum Base {
     Octal,
     Decimal,
     Hex,
 }
 
-// Whether underscores may stand among the digits: in normal mode they may, in jump mode not.
-const UNDERSCORES: bool = true;
+// The digits of a base, and whether underscores may stand behind the first: in normal mode they may, in jump mode not.
+#[derive(Clone, Copy, Debug, PartialEq, Eq)]
+struct Digits {
+    base: Base,
+    underscores: bool,
+}
 
-const DIGITS_ONLY: bool = false;
+// The digits of normal mode's decimal integers and floats.
+const DECIMALS: Digits = Digits {
+    base: Base::Decimal,
+    underscores: true,
+};
 
 // Both are found in one pass. Where no digit follows `0x` or `0o`, the integer is the 0 alone.
 pub fn number(src: &[u8], at: usize) -> Ends
     ensures { (result.integer ≡ at + longest integer (drop at src.now)) × (result.float ≡ at + longest float (drop at src.now)) }
 {
     let base = base_at(src, at);
+    let digits = Digits {
+        base,
+        underscores: true,
+    };
     match base {
         Base::Decimal => decimal(src, at),
         Base::Octal | Base::Hex => Ends {
-            integer: digits_end(src, at + 2, base, UNDERSCORES, at + 1),
+            integer: digits.end(src, at + 2).unwrap_or(at + 1),
             float: at,
         },
     }
@@ -48,9 +60,13 @@ pub fn jump_integer(src: &[u8], at: usize) -> usize
     ensures { result ≡ at + longest jump_integer (drop at src.now) }
 {
     let base = base_at(src, at);
+    let digits = Digits {
+        base,
+        underscores: false,
+    };
     match base {
-        Base::Decimal => digits_end(src, at, Base::Decimal, DIGITS_ONLY, at),
-        Base::Octal | Base::Hex => digits_end(src, at + 2, base, DIGITS_ONLY, at + 1),
+        Base::Decimal => digits.end(src, at).unwrap_or(at),
+        Base::Octal | Base::Hex => digits.end(src, at + 2).unwrap_or(at + 1),
     }
 }
 
@@ -74,16 +90,15 @@ fn base_at(src: &[u8], at: usize) -> Base
 fn decimal(src: &[u8], at: usize) -> Ends
     ensures { (result.integer ≡ at + longest decimal_integer (drop at src.now)) × (result.float ≡ at + longest float (drop at src.now)) }
 {
-    let end = digits_end(src, at, Base::Decimal, UNDERSCORES, at);
-    if at < end {
-        return Ends {
+    match DECIMALS.end(src, at) {
+        Some(end) => Ends {
             integer: suffix_end(src, end),
-            float: fraction_end(src, end, at),
-        };
-    }
-    Ends {
-        integer: at,
-        float: at,
+            float: fraction_end(src, end).unwrap_or(at),
+        },
+        None => Ends {
+            integer: at,
+            float: at,
+        },
     }
 }
 
@@ -100,55 +115,61 @@ fn suffix_end(src: &[u8], at: usize) -> usize
     at
 }
 
-// The end of the fraction at `at`, a dot and at least one digit or underscore, or `none` where there is no fraction.
-fn fraction_end(src: &[u8], at: usize, none: usize) -> usize
-    ensures { result ≡ walk fraction (drop at src.now) at none }
+// The end of the fraction at `at`: a dot and at least one digit or underscore.
+fn fraction_end(src: &[u8], at: usize) -> Option<usize>
+    ensures { (none : ℕ) → unwrap_or result none ≡ walk fraction (drop at src.now) at none }
 {
     if has_byte(src, at, b'.') {
         let first = at + 1;
-        let end = run_end(src, first, Base::Decimal, UNDERSCORES);
+        let end = DECIMALS.run_end(src, first);
         if first < end {
-            return end;
+            return Some(end);
         }
     }
-    none
+    None
 }
 
-// The end of the digits at `at`, underscores allowed only after the first, or `none` where there is no digit.
-fn digits_end(src: &[u8], at: usize, base: Base, underscores: bool, none: usize) -> usize
-    ensures { result ≡ walk (digits base underscores) (drop at src.now) at none }
-{
-    if at < src.len() && is_digit(src[at], base) {
-        return run_end(src, at + 1, base, underscores);
+impl Digits {
+    // The end of the digits at `at`; none where no digit stands there.
+    fn end(self, src: &[u8], at: usize) -> Option<usize>
+        ensures value { (none : ℕ) → unwrap_or result none ≡ walk (digits self.base self.underscores) (drop at src.now) at none }
+        ensures after { IfSome result (λ end. at < end) }
+    {
+        let first = *src.get(at)?;
+        if self.base.has(first) {
+            return Some(self.run_end(src, at + 1));
+        }
+        None
     }
-    none
-}
 
-// The end of the run at `at` of digits and, where they are allowed, underscores.
-fn run_end(src: &[u8], at: usize, base: Base, underscores: bool) -> usize
-    ensures { result ≡ at + span (run base underscores) (drop at src.now) }
-{
-    let mut i = at;
-    while i < src.len() && in_run(src[i], base, underscores) {
-        i += 1;
+    // The end of the run at `at` of digits and, where they are allowed, underscores.
+    fn run_end(self, src: &[u8], at: usize) -> usize
+        requires { at ≤ length src.now }
+        ensures { result ≡ at + span (run self.base self.underscores) (drop at src.now) }
+    {
+        at + src[at..]
+            .iter()
+            .take_while(|b| self.go_on_with(**b))
+            .count()
     }
-    i
+
+    // Whether `b` is a digit or, where they are allowed, an underscore.
+    fn go_on_with(self, b: u8) -> bool
+        ensures { result ≡ run self.base self.underscores b }
+    {
+        self.base.has(b) || (self.underscores && b == b'_')
+    }
 }
 
-// Whether `b` is a digit or, where they are allowed, an underscore.
-fn in_run(b: u8, base: Base, underscores: bool) -> bool
-    ensures { result ≡ run base underscores b }
-{
-    is_digit(b, base) || (underscores && b == b'_')
-}
-
-// Whether `b` is a digit of the base.
-fn is_digit(b: u8, base: Base) -> bool
-    ensures { result ≡ digit base b }
-{
-    match base {
-        Base::Octal => classes::is_oct(b),
-        Base::Decimal => classes::is_dec(b),
-        Base::Hex => classes::is_hex(b),
+impl Base {
+    // Whether `b` is a digit of the base.
+    fn has(self, b: u8) -> bool
+        ensures { result ≡ digit self b }
+    {
+        match self {
+            Base::Octal => classes::is_oct(b),
+            Base::Decimal => classes::is_dec(b),
+            Base::Hex => classes::is_hex(b),
+        }
     }
 }

@@ -12,18 +12,23 @@ overflow_add-first c =
     omega
     (arith, inside c.args.src.now c.args.at 46 (has_read c.has_byte.ensures (omega arith) ∙ c.if-has_byte.true) (omega arith))
 
+pub run_end-end-requires : goal.run_end-end-requires
+run_end-end-requires c =
+    omega
+    (arith, inside c.args.src.now c.args.at 46 (has_read c.has_byte.ensures (omega arith) ∙ c.if-has_byte.true) (omega arith))
+
 pub returns-then-first-end : goal.returns-then-first-end
 unfolding run
-returns-then-first-end c =
-    fraction_end c.args.src.now c.args.at _
+returns-then-first-end c = λ none.
+    fraction_end c.args.src.now c.args.at none
     (has_read c.has_byte.ensures (omega arith) ∙ c.if-has_byte.true) c.run_end-end.ensures c.if-first-end.true
 
 pub returns-else-first-end : goal.returns-else-first-end
 unfolding run
-returns-else-first-end c =
-    fraction_bare c.args.src.now c.args.at _
+returns-else-first-end c = λ none.
+    fraction_bare c.args.src.now c.args.at none
     (has_read c.has_byte.ensures (omega arith) ∙ c.if-has_byte.true) c.run_end-end.ensures c.if-first-end.false
 
 pub returns-else-has_byte : goal.returns-else-has_byte
-returns-else-has_byte c =
-    fraction_none c.args.src.now c.args.at _ (has_read c.has_byte.ensures (omega arith) ∙ c.if-has_byte.false)
+returns-else-has_byte c = λ none.
+    fraction_none c.args.src.now c.args.at none (has_read c.has_byte.ensures (omega arith) ∙ c.if-has_byte.false)

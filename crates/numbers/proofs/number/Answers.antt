@@ -1,6 +1,6 @@
 -- `numbers::number` meets its contract: a prefix leaves the digits of its base and begins no float; without one the integer is decimal.
 -- Assumes nothing.
-use Rattle.std.proofs.Common.{sym, ◌∙◌, true, arith}
+use Rattle.std.proofs.Common.{sym, ◌∙◌, ◌+◌, true, arith}
 use Rattle.numbers.specs.Parts.{digits}
 use Rattle.numbers.specs.Laws.{integer_ends, prefixed, plain}
 use Rattle.numbers.proofs.Bases.{not_decimal}
@@ -28,4 +28,4 @@ pub returns-in-Octal : goal.returns-in-Octal
 unfolding digits
 returns-in-Octal c =
     let p = prefixed true integer_ends c.args.src.now c.args.at c.base_at-base.ensures (not_decimal c.in-Octal.is) in
-    (c.digits_end.ensures ∙ sym p.left.same, p.no_float)
+    (c.unwrap_or.ensures ∙ c.end.ensures.value (c.args.at + 1) ∙ sym p.left.same, p.no_float)

@@ -1,9 +1,9 @@
--- `numbers::is_digit` meets its contract: each base has its class of bytes.
+-- `Base::has` meets its contract: each base has its class of bytes.
 -- Assumes nothing.
 use Rattle.std.proofs.Common.{ℕ, ◌≡◌, sym, ap, ◌∙◌}
 use Rattle.numbers.specs.declared.Base.{Base}
 use Rattle.numbers.specs.Parts.{digit}
-use Rattle.numbers.proofs.is_digit.Goals as goal
+use Rattle.numbers.proofs.Base.has.Goals as goal
 
 -- the base of an arm
 known : (b : ℕ) {base arm : Base} → base ≡ arm → digit arm b ≡ digit base b
