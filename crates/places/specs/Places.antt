@@ -2,12 +2,14 @@
 -- Each is one turn of `walk`, or none. Assumes nothing.
 use Rattle.std.specs.Prelude.{ℕ, ◌+◌, ◌≤◌, ◌<◌, ◌≡◌, Bool, ◌&&◌, List, [], ◌∷◌, length, get_or, drop, ltb, eqb}
 use Rattle.std.proofs.Math.Path.{refl, fun_ext}
-use Rattle.std.proofs.Common.{sym, ap, ◌∙◌, arith, drop-cons, ltb-true, lt-ltb, ne_eqb}
+use Rattle.std.proofs.Common.{sym, ap, ◌∙◌, arith, drop-cons, ltb-true, lt-ltb, ne_eqb, eqb-true}
 use Rattle.std.proofs.Math.Bool.{true, false, cond, and-true, or-false}
 use Rattle.std.proofs.Math.Decide.{dec_lt}
 use Rattle.std.proofs.Math.ListN.{get_or-eq_default}
 use Rattle.patterns.specs.Utf8.{Class}
-use Rattle.patterns.proofs.Bools.{and_first, and_second}
+use Rattle.std.proofs.lemmas.Bool.{eqb-false}
+use Rattle.std.specs.List.{starts_with}
+use Rattle.patterns.proofs.Bools.{and_first, and_second, by_test}
 use Rattle.patterns.specs.Pattern.{Pat, nothing, byte, seq, star, literal, nullable, follow, if_in, deriv, longest}
 use Rattle.patterns.specs.Walk.{Came, prefix}
 use Rattle.patterns.proofs.Walk.{ends, step, halt, prefix_short}
@@ -65,6 +67,16 @@ one_byte y = ap byte (fun_ext (λ x. or-false (eqb x y)))
 pub prefix_byte : (y : ℕ) (s : List ℕ) (i : ℕ) → i < length s → prefix (y ∷ []) (drop i s) ≡ eqb (get_or s i 0) y
 unfolding prefix
 prefix_byte y s i h = rw (drop-cons s i 0) (and-true (eqb (get_or s i 0) y))
+
+eqb_sym : (x y : ℕ) → eqb x y ≡ eqb y x
+eqb_sym x y = by_test (eqb x y) (λ e. rw (eqb-true x y e)) (λ e. e ∙ sym (ne_eqb y x (λ q. eqb-false x y e (sym q))))
+
+-- a text that starts with ys has ys at its front
+pub starts_is : (ys xs : List ℕ) → starts_with eqb xs ys ≡ prefix ys xs
+unfolding prefix
+starts_is [] xs = refl
+starts_is (y ∷ ys) [] = refl
+starts_is (y ∷ ys) (x ∷ xs) = rw (starts_is ys xs, eqb_sym y x)
 
 -- r tells whether the byte b stands at i
 pub record Has (s : List ℕ) (i b : ℕ) (r : Bool) : Type 0 where

@@ -10,30 +10,19 @@ ghost use Rattle.places.specs.Signs.{Byte};
 pub fn byte_at(src: &[u8], at: usize) -> u8
     ensures { Byte src.now at result }
 {
-    if at < src.len() {
-        return src[at];
-    }
-    0
+    src.get(at).copied().unwrap_or(0)
 }
 
 // Whether the byte `b` stands at `at`.
 pub fn has_byte(src: &[u8], at: usize, b: u8) -> bool
     ensures { Has src.now at b result }
 {
-    at < src.len() && src[at] == b
+    src.get(at) == Some(&b)
 }
 
 // Whether `text` stands at `at`.
 pub fn has(src: &[u8], at: usize, text: &[u8]) -> bool
     ensures { result ≡ prefix text.now (drop at src.now) }
 {
-    let mut n = 0;
-    while n < text.len() {
-        let i = at + n;
-        if src.len() <= i || src[i] != text[n] {
-            return false;
-        }
-        n += 1;
-    }
-    true
+    src.get(at..).unwrap_or(&[]).starts_with(text)
 }

@@ -1,31 +1,21 @@
-use Rattle.std.proofs.Common.{ℕ, ◌+◌, ◌<◌, ◌≡◌, sym, ◌∙◌, List, add-zero, arith, length, get_or, drop, rules}
+-- `places::has` meets its contract: what is left of the source from the place on starts with the text, or does not (starts_is); past the
+-- end nothing is left. Assumes nothing.
+use Rattle.std.proofs.Common.{ℕ, ◌≡◌, ◌+◌, ◌-◌, ◌<◌, ◌≤◌, ◌⊎◌, refl, sym, ap, ◌∙◌, Bool, ◌&&◌, List, [], ◌∷◌, length, take, drop, take_all, length-drop, drop_of_length-le, eqb, arith, Option, Some, None, MatchOption, Bor, unwrap_or}
+use Rattle.std.specs.List.{starts_with, slice_range}
 use Rattle.patterns.specs.Walk.{prefix}
-use Rattle.patterns.proofs.Walk.{prefix_done, prefix_short, prefix_no, prefix_yes}
+use Rattle.places.specs.Places.{starts_is}
 use Rattle.places.proofs.has.Goals as goal
-use Rattle.places.proofs.has.Goals.{then-src-i-via-then-src-i, then-src-i-via-else-src-i+then-src-i-2}
 
--- a byte more agrees
-one_more : (text src : List ℕ) (at n : ℕ) → n < length text → at + n < length src → get_or src (at + n) 0 ≡ get_or text n 0
-    → prefix (drop (n + 1) text) (drop (at + (n + 1)) src) ≡ prefix (drop n text) (drop (at + n) src)
-one_more text src at n h l e = let z : at + (n + 1) ≡ at + n + 1 = omega arith in rw z (sym (prefix_yes text n src (at + n) h l e))
-
-pub loop-n-init : goal.loop-n-init
-loop-n-init c = (search rules, rw add-zero)
-
-pub returns-then-src-i : goal.returns-then-src-i
-returns-then-src-i c =
-    elim c.then-src-i.branch [
-      | then-src-i-via-then-src-i w ↦ prefix_short _ _ _ _ c.loop-n-test.true w.if-src-i.true
-      | then-src-i-via-else-src-i+then-src-i-2 w ↦ prefix_no _ _ _ _ c.loop-n-test.true w.if-src-i.false w.if-src-i-2.true
-    ]
-    ∙ c.loop-n.invariant.1
-
-pub loop-n-preserved : goal.loop-n-preserved
-loop-n-preserved c = (
-  search rules,
-  one_more _ _ _ _ c.loop-n-test.true c.if-src-i.false c.if-src-i-2.false ∙ c.loop-n.invariant.1,
-)
+-- what is left from the place on
+left : (s : List ℕ) (at : ℕ) (o : Option (Bor (List ℕ))) (d : Bor (List ℕ)) → d.now ≡ []
+    → MatchOption o ((length s < at) ⊎ (length s < length s)) (λ x. (at ≤ length s) × (length s ≤ length s) × (x.now ≡ slice_range s at (length s)) × (length x.now + at ≡ length s))
+    → (unwrap_or o d).now ≡ drop at s
+left s at None d e past = e ∙ sym (drop_of_length-le s (omega arith))
+left s at (Some x) d e h = h.2 ∙ take_all _ (drop at s) (omega (arith, length-drop at s))
 
 pub returns : goal.returns
 returns c =
-    prefix_done _ _ c.args.src.now (c.args.at + c.loop-n.n) c.loop-n-test.false ∙ c.loop-n.invariant.1
+    let a = c.args in
+    c.starts_with.ensures.value
+    ∙ ap (λ (xs : List ℕ). starts_with eqb xs a.text.now) (ap (λ (x : Bor (List ℕ)). x.now) c.unwrap_or.ensures ∙ left a.src.now a.at c.get.result _ refl c.get.ensures.lookup.0)
+    ∙ starts_is a.text.now (drop a.at a.src.now)

@@ -1,14 +1,18 @@
--- `places::has_byte` meets its contract: past the end nothing stands, and else the first byte decides.
+-- `places::has_byte` meets its contract: past the end nothing stands, and else the byte there decides.
 -- Assumes nothing.
-use Rattle.std.proofs.Common.{sym, ◌∙◌, [], ◌∷◌, arith, le-ltb}
+use Rattle.std.proofs.Common.{ℕ, ◌≡◌, ◌<◌, ◌≤◌, sym, ap, ◌∙◌, Bool, List, [], ◌∷◌, length, drop, eqb, arith, Option, Some, None, MatchOption, Bor}
+use Rattle.std.specs.Option.{option_eq}
+use Rattle.std.specs.List.{HoldsAt}
+use Rattle.patterns.specs.Walk.{prefix}
 use Rattle.patterns.proofs.Walk.{prefix_short}
 use Rattle.places.specs.Places.{prefix_byte}
 use Rattle.places.proofs.has_byte.Goals as goal
 
-pub returns-then-at-src : goal.returns-then-at-src
-returns-then-at-src c = record { told = sym (prefix_byte _ _ _ c.if-at-src.true) }
+-- b beside what is read at the place
+read : (s : List ℕ) (at : ℕ) (o : Option (Bor ℕ)) (b : Bor ℕ) → MatchOption o (length s ≤ at) (λ x. (at < length s) × HoldsAt (λ y. x.now ≡ y) s at)
+    → option_eq (λ (x : Bor ℕ) (y : Bor ℕ). eqb x.now y.now) o (Some b) ≡ prefix (b.now ∷ []) (drop at s)
+read s at None b past = prefix_short (b.now ∷ []) 0 s at (omega arith) past
+read s at (Some x) b h = ap (λ (y : ℕ). eqb y b.now) (h.1 0) ∙ sym (prefix_byte b.now s at h.0)
 
-pub returns-else-at-src : goal.returns-else-at-src
-returns-else-at-src c =
-    let a = c.args in
-    record { told = le-ltb _ _ c.if-at-src.false ∙ prefix_short (a.b ∷ []) 0 a.src.now a.at (omega arith) c.if-at-src.false }
+pub returns : goal.returns
+returns c = record { told = c.eq.ensures ∙ read c.args.src.now c.args.at c.get.result _ c.get.ensures.lookup.3 }
