@@ -1,10 +1,9 @@
 // Strings and regexps: where the one at a place ends.
 #![tactic(auto)]
 
-ghost use Rattle.std.specs.Prelude.{◌+◌, ◌<◌, ◌≡◌, length, get_or, drop};
+ghost use Rattle.std.specs.Prelude.{◌+◌, ◌<◌, ◌≤◌, ◌≡◌, length, get_or, drop};
 ghost use Rattle.patterns.specs.Pattern.{longest};
-ghost use Rattle.tokens.specs.Tokens.{letter, string, multi_line_string, regexp};
-ghost use Rattle.places.specs.Places.{stands};
+ghost use Rattle.tokens.specs.Tokens.{string, multi_line_string, regexp};
 ghost use Rattle.texts.specs.Items.{items, pair_at};
 ghost use Rattle.texts.specs.Quoted.{plain, quoted};
 ghost use Rattle.texts.specs.Regexps.{modifiers};
@@ -24,11 +23,7 @@ fn pair(src: &[u8], at: usize) -> bool
     requires { at < length src.now }
     ensures { result ≡ pair_at src.now at }
 {
-    if src[at] == b'\\' {
-        let next = at + 1;
-        return next < src.len() && src[next] != b'\n';
-    }
-    false
+    src[at] == b'\\' && src.get(at + 1).is_some_and(|b| *b != b'\n')
 }
 
 // The end of the row of items at `at`: plain bytes, and pairs.
@@ -77,28 +72,16 @@ pub fn multi_line_string(src: &[u8], at: usize) -> usize
     quoted(src, at, b"\"\"\"", true)
 }
 
-// Whether a letter stands at `at`.
-fn letter_at(src: &[u8], at: usize) -> bool
-    ensures { result ≡ stands letter src.now at }
-{
-    if src.len() <= at {
-        return false;
-    }
-    classes::is_letter(src[at])
-}
-
 // The end of the modifiers at `at`: at most two letters.
 fn modifiers(src: &[u8], at: usize) -> usize
+    requires { at ≤ length src.now }
     ensures { result ≡ at + longest modifiers (drop at src.now) }
 {
-    if !letter_at(src, at) {
-        return at;
-    }
-    let second = at + 1;
-    if !letter_at(src, second) {
-        return second;
-    }
-    second + 1
+    at + src[at..]
+        .iter()
+        .take_while(|b| classes::is_letter(**b))
+        .take(2)
+        .count()
 }
 
 // The end of the regexp at `at`, or `at` where there is none.

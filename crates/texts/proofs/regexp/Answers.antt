@@ -50,6 +50,11 @@ overflow_add-end c =
     let closed = sym c.has_byte-3.ensures.told ∙ c.if-not-has_byte-2.false in
     omega (arith, prefix_within (ascii "/") _ c.items-end.result closed (omega arith))
 
+pub modifiers-requires : goal.modifiers-requires
+modifiers-requires c =
+    let closed = sym c.has_byte-3.ensures.told ∙ c.if-not-has_byte-2.false in
+    omega (arith, prefix_within (ascii "/") _ c.items-end.result closed (omega arith))
+
 pub returns : goal.returns
 returns c =
     let e = ended c.args.src.now c.args.at (sym c.has_byte.ensures.told ∙ c.if-not-has_byte.false) (sym c.has_byte-2.ensures.told ∙ c.if-has_byte.false)
