@@ -31,8 +31,8 @@ fn items(src: &[u8], at: usize, close: u8, lines: bool) -> usize
     ensures { result ≡ at + longest (items (plain close lines)) (drop at src.now) }
 {
     let mut i = at;
-    while i < src.len() {
-        if plain(src[i], close, lines) {
+    while let Some(b) = src.get(i) {
+        if plain(*b, close, lines) {
             i += 1;
         } else if pair(src, i) {
             i += 2;

@@ -6,8 +6,8 @@ use Rattle.texts.specs.Items.{items}
 use Rattle.texts.specs.Quoted.{plain}
 use Rattle.texts.proofs.items.Given as goal
 
-abbrev pub invariant-loop-i : goal.invariant-loop-i
-invariant-loop-i l = Came (items (plain l.close l.lines)) l.src l.at (items (plain l.close l.lines)) l.i l.i
+abbrev pub invariant-loop-b : goal.invariant-loop-b
+invariant-loop-b l = Came (items (plain l.close l.lines)) l.src l.at (items (plain l.close l.lines)) l.i l.i
 
-abbrev pub decreases-loop-i : goal.decreases-loop-i
-decreases-loop-i l = length l.src - l.i
+abbrev pub decreases-loop-b : goal.decreases-loop-b
+decreases-loop-b l = length l.src - l.i

@@ -1,6 +1,6 @@
 -- `texts::modifiers` meets its contract: a letter leaves at most one more to be read, and that one leaves nothing.
 -- Assumes nothing.
-use Rattle.std.proofs.Common.{ℕ, List, true, false, ◌≡◌, ◌+◌, ◌-◌, ◌<◌, min, sym, ap, ◌∙◌, length, drop, take, take_all, length-drop, length-take, arith, rules, tests}
+use Rattle.std.proofs.Common.{ℕ, List, true, false, ◌≡◌, ◌+◌, ◌<◌, min, ap, ◌∙◌, length, drop, take, take_all, length-drop, length-take, arith, rules, tests}
 use Rattle.std.proofs.Math.Decide.{dec_lt}
 use Rattle.std.specs.List.{prefix_len}
 use Rattle.std.proofs.lemmas.List.Folds.{length-prefix_len}

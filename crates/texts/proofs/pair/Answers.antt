@@ -1,6 +1,6 @@
 -- `texts::pair` meets its contract: each answer is what the tests that led to it make of `pair_at`.
 -- Assumes nothing.
-use Rattle.std.proofs.Common.{ℕ, ◌+◌, ◌≡◌, ◌<◌, ◌≤◌, sym, ap, ◌∙◌, Bool, false, not, List, length, get_or, eqb, eq-eqb, ne_eqb, lt-ltb, le-ltb, rules, tests, Option, Some, None, MatchOption, Bor}
+use Rattle.std.proofs.Common.{ℕ, ◌+◌, ◌≡◌, ◌<◌, ◌≤◌, ap, ◌∙◌, Bool, false, not, List, length, eqb, eq-eqb, ne_eqb, lt-ltb, le-ltb, rules, tests, Option, Some, None, MatchOption, Bor}
 use Rattle.std.specs.List.{HoldsAt}
 use Rattle.std.proofs.Math.Bool.{or-false}
 use Rattle.tokens.specs.Tokens.{none_of}
