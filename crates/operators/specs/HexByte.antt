@@ -57,8 +57,8 @@ module _ {s : List ℕ} {i a : ℕ} {t : Bool} (r : Byte s i a) (e : t ≡ hex_o
   pub by_second : {b : ℕ} {u : Bool} → t ≡ true → Byte s (i + 1) b → u ≡ hex_or_mark b → Nibbles s i u
   by_second p n f = record { is = f ∙ rw (← r.is, ← n.is, ← e, p) }
 
-  pub by_first : t ≡ false → Nibbles s i t
-  by_first p = record { is = p ∙ rw (← r.is, ← e, p) }
+  pub by_first : t ≡ false → Nibbles s i false
+  by_first p = record { is = rw (← r.is, ← e, p) }
 
 -- A hex byte at a place: the byte there is `~`, or it is not.
 module _ {s : List ℕ} {at a : ℕ} (r : Byte s at a) {t : Bool} where

@@ -91,15 +91,28 @@ module _ (ws : List Spelling) (tidy : each (λ w. short w.bytes) ws ≡ true) {s
   told_at : best (map spelled ws) (drop at s) ≡ told ws a (get_or s (at + 1) 0)
   told_at = best_told ws (drop at s) tidy ∙ rw (get_or-drop at s 0 0, get_or-drop at s 1 0, add-zero, r.is)
 
-  pub at_one : {x : ℕ} {h : Option Hit} → a ≡ x → h ≡ matched (told ws x (get_or s (at + 1) 0)) → h ≡ matched (best (map spelled ws) (drop at s))
-  at_one e q = q ∙ ap matched (sym (told_at ∙ rw e))
+  pub at_one : {x : ℕ} {h : Hit} → a ≡ x → h ≡ told ws x (get_or s (at + 1) 0) → h ≡ best (map spelled ws) (drop at s)
+  at_one e q = q ∙ sym (told_at ∙ rw e)
 
   -- with the next byte, and where that is known
-  pub at_next : {x b : ℕ} {h : Option Hit} → a ≡ x → Byte s (at + 1) b → h ≡ matched (told ws x b) → h ≡ matched (best (map spelled ws) (drop at s))
+  pub at_next : {x b : ℕ} {h : Hit} → a ≡ x → Byte s (at + 1) b → h ≡ told ws x b → h ≡ best (map spelled ws) (drop at s)
   at_next e n q = at_one e (q ∙ rw n.is)
 
-  pub at_two : {x b y : ℕ} {h : Option Hit} → a ≡ x → Byte s (at + 1) b → b ≡ y → h ≡ matched (told ws x y) → h ≡ matched (best (map spelled ws) (drop at s))
+  pub at_two : {x b y : ℕ} {h : Hit} → a ≡ x → Byte s (at + 1) b → b ≡ y → h ≡ told ws x y → h ≡ best (map spelled ws) (drop at s)
   at_two e n f q = at_next e n (q ∙ rw f)
 
-  pub at_none : (firsts : List ℕ) → each (λ w. one_of firsts (get_or w.bytes 0 0)) ws ≡ true → NoneOf firsts a → None ≡ matched (best (map spelled ws) (drop at s))
-  at_none firsts e n = ap matched (sym (told_at ∙ none_told firsts a (get_or s (at + 1) 0) (not_one firsts a n) ws e))
+  pub at_none : (firsts : List ℕ) → each (λ w. one_of firsts (get_or w.bytes 0 0)) ws ≡ true → NoneOf firsts a → hit 0 0 ≡ best (map spelled ws) (drop at s)
+  at_none firsts e n = sym (told_at ∙ none_told firsts a (get_or s (at + 1) 0) (not_one firsts a n) ws e)
+
+  -- the same of hits as the code has them
+  pub one_matched : {x : ℕ} {h : Option Hit} → a ≡ x → h ≡ matched (told ws x (get_or s (at + 1) 0)) → h ≡ matched (best (map spelled ws) (drop at s))
+  one_matched e q = q ∙ ap matched (at_one e refl)
+
+  pub next_matched : {x b : ℕ} {h : Option Hit} → a ≡ x → Byte s (at + 1) b → h ≡ matched (told ws x b) → h ≡ matched (best (map spelled ws) (drop at s))
+  next_matched e n q = q ∙ ap matched (at_next e n refl)
+
+  pub two_matched : {x b y : ℕ} {h : Option Hit} → a ≡ x → Byte s (at + 1) b → b ≡ y → h ≡ matched (told ws x y) → h ≡ matched (best (map spelled ws) (drop at s))
+  two_matched e n f q = q ∙ ap matched (at_two e n f refl)
+
+  pub none_matched : (firsts : List ℕ) → each (λ w. one_of firsts (get_or w.bytes 0 0)) ws ≡ true → NoneOf firsts a → None ≡ matched (best (map spelled ws) (drop at s))
+  none_matched firsts e n = ap matched (at_none firsts e n)

@@ -110,16 +110,23 @@ matched_alone h = go (which h (hit 0 0))
 
 module _ (s : List ℕ) (at : ℕ) where
   -- of one rule, by where it ends
-  pub of_rule : (k : ℕ) (p : Pat) {e : ℕ} {h : Option Hit} → h ≡ matched (hit k (e - at)) → e ≡ at + longest p (drop at s) → h ≡ matched (best (rule k p ∷ []) (drop at s))
+  pub of_rule : (k : ℕ) (p : Pat) {e : ℕ} {h : Hit} → h ≡ better (hit k (e - at)) (hit 0 0) → e ≡ at + longest p (drop at s) → h ≡ best (rule k p ∷ []) (drop at s)
   unfolding best
-  of_rule k p {e} q r = let n : e - at ≡ longest p (drop at s) = omega arith in q ∙ ap (λ (n : ℕ). matched (hit k n)) n ∙ matched_alone (hit k (longest p (drop at s)))
+  of_rule k p {e} q r = let n : e - at ≡ longest p (drop at s) = omega arith in q ∙ ap (λ (n : ℕ). better (hit k n) (hit 0 0)) n
 
   -- of two lists
-  pub of_both : (xs ys : List Rule) {h g r : Option Hit} → r ≡ longer_hit h g → h ≡ matched (best xs (drop at s)) → g ≡ matched (best ys (drop at s)) → r ≡ matched (best (xs ++ ys) (drop at s))
-  of_both xs ys {h} q a b =
-      q ∙ ap (longer_hit h) b ∙ ap (λ (x : Option Hit). longer_hit x (matched (best ys (drop at s)))) a ∙ longer_matched (best xs (drop at s)) (best ys (drop at s))
-      ∙ ap matched (sym (best_append xs ys (drop at s)))
+  pub of_both : (xs ys : List Rule) {h g r : Hit} → r ≡ better h g → h ≡ best xs (drop at s) → g ≡ best ys (drop at s) → r ≡ best (xs ++ ys) (drop at s)
+  of_both xs ys {h} q a b = q ∙ ap (better h) b ∙ ap (λ (x : Hit). better x (best ys (drop at s))) a ∙ sym (best_append xs ys (drop at s))
 
   -- of any rules at the end of the source
   pub past_end : (rs : List Rule) → length s ≤ at → hit 0 0 ≡ best rs (drop at s)
   past_end rs h = sym (ap (best rs) (drop_of_length-le s h) ∙ best_empty rs)
+
+  -- the same of hits as the code has them
+  pub rule_matched : (k : ℕ) (p : Pat) {e : ℕ} {h : Option Hit} → h ≡ matched (hit k (e - at)) → e ≡ at + longest p (drop at s) → h ≡ matched (best (rule k p ∷ []) (drop at s))
+  rule_matched k p {e} q r = q ∙ matched_alone (hit k (e - at)) ∙ ap matched (of_rule k p refl r)
+
+  pub both_matched : (xs ys : List Rule) {h g r : Option Hit} → r ≡ longer_hit h g → h ≡ matched (best xs (drop at s)) → g ≡ matched (best ys (drop at s)) → r ≡ matched (best (xs ++ ys) (drop at s))
+  both_matched xs ys {h} q a b =
+      q ∙ ap (longer_hit h) b ∙ ap (λ (x : Option Hit). longer_hit x (matched (best ys (drop at s)))) a ∙ longer_matched (best xs (drop at s)) (best ys (drop at s))
+      ∙ ap matched (of_both xs ys refl refl refl)

@@ -3,7 +3,7 @@
 use Prim.Native.Nat.{ℕ, zero, suc, ◌+◌, ◌≤◌, ◌<◌}
 use Rattle.std.specs.Prelude.{◌≡◌, List, [], ◌∷◌, length, drop, Option, Some, None, MatchOption}
 use Rattle.std.proofs.Math.Path.{refl, sym, ap}
-use Rattle.std.proofs.Common.{◌∙◌, arith, length-drop}
+use Rattle.std.proofs.Common.{◌∙◌, subst, arith, length-drop}
 use Rattle.patterns.specs.Utf8.{decode, whole}
 use Rattle.tokens.specs.declared.Hit.{Hit}
 use Rattle.tokens.specs.declared.Mode.{Mode}
@@ -14,7 +14,7 @@ use Rattle.tokens.specs.Tokens.{Tables}
 use Rattle.tokens.specs.Scan.{best, rules, tried, chosen, unmatched, or_else, choose, token, found, scan_rest, scan}
 use Rattle.tokens.proofs.ScanLaws.{scan_found}
 use Rattle.places.specs.Signs.{matched}
-use Rattle.rules.specs.Choosing.{taken, unknown_of}
+use Rattle.rules.specs.Choosing.{unknown_of}
 use Rattle.rules.proofs.Better.{matched_some, matched_none}
 
 module _ (t : Tables) (s : List ℕ) where
@@ -28,24 +28,34 @@ module _ (t : Tables) (s : List ℕ) where
   unknown_text v n e = rw e
 
   -- a mode's hit is taken, or the next mode is tried
-  module _ (m : Mode) (ms : List Mode) where
-    or_else_matched : (h : Hit) (next : Choice) → or_else m h.kind h.len next ≡ taken m (matched h) next
-    or_else_matched h next = go h.len refl
+  module _ (m : Mode) (ms : List Mode) {h : Hit} (e : h ≡ best (rules t m) s) where
+    pub hit_taken : 1 ≤ h.len → chosen h.kind h.len m ≡ choose t (m ∷ ms) s
+    unfolding choose
+    hit_taken l = go h.len refl l ∙ ap (λ (g : Hit). or_else m g.kind g.len (choose t ms s)) e
       where
-        go : (n : ℕ) → h.len ≡ n → or_else m h.kind h.len next ≡ taken m (matched h) next
-        go zero q = ap (λ (n : ℕ). or_else m h.kind n next) q ∙ ap (λ (o : Option Hit). taken m o next) (matched_none h (omega arith))
-        go (suc n) q =
-            ap (λ (n : ℕ). or_else m h.kind n next) q ∙ ap (λ (n : ℕ). chosen h.kind n m) (sym q) ∙ ap (λ (o : Option Hit). taken m o next) (matched_some h (omega arith))
+        go : (n : ℕ) → h.len ≡ n → 1 ≤ n → chosen h.kind h.len m ≡ or_else m h.kind h.len (choose t ms s)
+        go zero q l = absurd (omega arith)
+        go (suc n) q l = rw q
 
-    -- where there is no hit, Q says what is taken
+    pub next_tried : h.len ≡ 0 → choose t ms s ≡ choose t (m ∷ ms) s
+    unfolding choose
+    next_tried z = sym (ap (λ (g : Hit). or_else m g.kind g.len (choose t ms s)) (sym e) ∙ ap (λ (n : ℕ). or_else m h.kind n (choose t ms s)) z)
+
+  -- the same of a hit as the code has it: Q says what is taken where there is none
+  module _ (m : Mode) (ms : List Mode) where
     pub hit_or_next : {Q : Type 0} (o : Option Hit) {r : Choice} → o ≡ matched (best (rules t m) s) → MatchOption o Q (λ h. r ≡ chosen h.kind h.len m) → (Q → r ≡ choose t ms s)
         → r ≡ choose t (m ∷ ms) s
-    unfolding choose
-    hit_or_next {Q} o {r} e d f = go o d ∙ ap (λ (o : Option Hit). taken m o (choose t ms s)) e ∙ sym (or_else_matched (best (rules t m) s) (choose t ms s))
+    hit_or_next {Q} o {r} e d f = go h.len refl
       where
-        go : (o : Option Hit) → MatchOption o Q (λ h. r ≡ chosen h.kind h.len m) → r ≡ taken m o (choose t ms s)
-        go None q = f q
-        go (Some h) q = q
+        h : Hit
+        h = best (rules t m) s
+
+        known : (o' : Option Hit) → o' ≡ matched h → MatchOption o' Q (λ h. r ≡ chosen h.kind h.len m)
+        known o' q = subst (λ (o : Option Hit). MatchOption o Q (λ h. r ≡ chosen h.kind h.len m)) (e ∙ sym q) d
+
+        go : (n : ℕ) → h.len ≡ n → r ≡ choose t (m ∷ ms) s
+        go zero q = f (known None (matched_none h (omega arith))) ∙ next_tried m ms refl q
+        go (suc n) q = known (Some h) (matched_some h (omega arith)) ∙ hit_taken m ms refl (omega arith)
 
 -- the token at a place
 rest_found : (t : Tables) (m : Mode) (at : ℕ) (s : List ℕ) → 1 ≤ length s → found at (choose t (tried m) s) ≡ scan_rest t m at s

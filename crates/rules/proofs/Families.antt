@@ -8,16 +8,14 @@ use Rattle.tokens.specs.declared.Mode.{Mode}
 use Rattle.tokens.specs.declared.Mode.TheVariants.{Normal, HexPattern, HexJump}
 use Rattle.tokens.specs.Kinds.{IDENT, FLOAT_LIT, INTEGER_LIT, WHITESPACE, NEWLINE, HEX_BYTE}
 use Rattle.tokens.specs.Tokens.{Rule, rule, spelled, tables_1, words_1, operators, dec, word_start, hex_byte, pattern_operators, jump_integer, jump_operators}
-use Rattle.tokens.specs.NoneOf.{NoneOf}
 use Rattle.tokens.specs.Scan.{best, rules}
-use Rattle.places.specs.Signs.{matched}
 use Rattle.rules.specs.First.{only, spacing, hex_start, kinds_of, first_kinds, First}
 use Rattle.rules.proofs.First.{by_first}
 use Rattle.rules.specs.Families.{Suffice, number_rules, spacing_rules, word_rules}
 
 module _ {s : List ℕ} {at b : ℕ} (p : First s at b) where
   suffice : (m : Mode) (ks : List ℕ) (rs : List Rule) → only ks (rules tables_1 m) ≡ rs → first_kinds m b ≡ ks → Suffice m s at rs
-  suffice m ks rs e f = ap matched (sym (by_first m p ∙ ap (λ (ks : List ℕ). best (only ks (rules tables_1 m)) (drop at s)) f ∙ ap (λ (rs : List Rule). best rs (drop at s)) e))
+  suffice m ks rs e f = sym (by_first m p ∙ ap (λ (ks : List ℕ). best (only ks (rules tables_1 m)) (drop at s)) f ∙ ap (λ (rs : List Rule). best rs (drop at s)) e)
 
   -- one byte
   pub exact : (m : Mode) (x : ℕ) (rs : List Rule) → only (first_kinds m x) (rules tables_1 m) ≡ rs → b ≡ x → Suffice m s at rs
@@ -36,9 +34,9 @@ module _ {s : List ℕ} {at b : ℕ} (p : First s at b) where
     unfolding rules first_kinds
     at_hex e = suffice HexPattern (HEX_BYTE ∷ []) (rule HEX_BYTE hex_byte ∷ []) refl (rw (f, e))
 
-    pub at_pattern_operator : hex_start b ≡ false → NoneOf (47 ∷ []) b → Suffice HexPattern s at (map spelled pattern_operators)
+    pub at_pattern_operator : hex_start b ≡ false → (b ≡ 47 → ⊥) → Suffice HexPattern s at (map spelled pattern_operators)
     unfolding rules first_kinds
-    at_pattern_operator e n = suffice HexPattern (kinds_of pattern_operators) (map spelled pattern_operators) refl (rw (f, e, ne_eqb b 47 n.1))
+    at_pattern_operator e n = suffice HexPattern (kinds_of pattern_operators) (map spelled pattern_operators) refl (rw (f, e, ne_eqb b 47 n))
 
     -- jump mode
     pub at_jump_integer : dec b ≡ true → Suffice HexJump s at (rule INTEGER_LIT jump_integer ∷ [])
@@ -59,18 +57,19 @@ module _ {s : List ℕ} {at b : ℕ} (p : First s at b) where
       unfolding rules first_kinds
       at_number e = suffice Normal (FLOAT_LIT ∷ INTEGER_LIT ∷ []) number_rules refl (rw (f, g, e))
 
-      pub at_operator : dec b ≡ false → NoneOf (33 ∷ 64 ∷ 35 ∷ 36 ∷ 47 ∷ 34 ∷ []) b → Suffice Normal s at (map spelled operators)
+      pub at_operator : dec b ≡ false → (b ≡ 34 → ⊥) → (b ≡ 47 → ⊥) → (b ≡ 36 → ⊥) → (b ≡ 35 → ⊥) → (b ≡ 64 → ⊥)
+          → (b ≡ 33 → ⊥) → Suffice Normal s at (map spelled operators)
       unfolding rules first_kinds
-      at_operator e n =
+      at_operator e h i j k l n =
           suffice Normal (kinds_of operators) (map spelled operators) refl
           (rw (
             f,
             g,
             e,
-            ne_eqb b 34 n.0.0.0.0.0.1,
-            ne_eqb b 47 n.0.0.0.0.1,
-            ne_eqb b 36 n.0.0.0.1,
-            ne_eqb b 35 n.0.0.1,
-            ne_eqb b 64 n.0.1,
-            ne_eqb b 33 n.1,
+            ne_eqb b 34 h,
+            ne_eqb b 47 i,
+            ne_eqb b 36 j,
+            ne_eqb b 35 k,
+            ne_eqb b 64 l,
+            ne_eqb b 33 n,
           ))

@@ -1,6 +1,6 @@
 -- Words in normal mode: a keyword where the whole word is one, else IDENT. Every keyword is a text of IDENT, so none is longer than
 -- the word; one that is as long stands first in the list and wins, and one that is shorter loses. Assumes nothing.
-use Rattle.std.specs.Prelude.{ℕ, zero, suc, ◌+◌, ◌-◌, ◌≤◌, ◌<◌, ◌≡◌, refl, Bool, true, false, cond, ◌&&◌, length, get_or, drop, take, leb, eqb, Some}
+use Rattle.std.specs.Prelude.{ℕ, zero, suc, ◌+◌, ◌-◌, ◌≤◌, ◌<◌, ◌≡◌, refl, Bool, true, false, cond, ◌&&◌, length, get_or, drop, take, leb, eqb}
 use Rattle.std.proofs.Common.{sym, ◌∙◌, subst, arith, length-drop, take_all, eqb-true, leb-true}
 use Rattle.std.proofs.Math.Path.{ap}
 use Rattle.std.proofs.lemmas.Bool.{false≢true, eqb-false}
@@ -22,8 +22,7 @@ use Rattle.tokens.specs.Unicode.{digits_16}
 use Rattle.tokens.specs.Tokens.{Rule, Spelling, rule, spelled, words_1, word_start, tail, identifier}
 use Rattle.tokens.specs.Scan.{hit, better, best}
 use Rattle.words.specs.Keywords.{same, keyword_of}
-use Rattle.rules.proofs.Better.{better_first, better_longer, matched_some}
-use Rattle.places.specs.Signs.{matched}
+use Rattle.rules.proofs.Better.{better_first, better_longer}
 use Rattle.rules.specs.Words.{whole_word}
 
 -- A byte of a class, and then a tail.
@@ -126,12 +125,11 @@ all_listed xs = every words_1 (each_right whole_word words_1 all_whole)
 
 -- at a place: e is the word's end, and k its kind
 pub word_hit : (s : List ℕ) (at e k : ℕ) → at < length s → word_start (get_or s at 0) ≡ true → e ≡ at + 1 + longest (tail digits_16) (drop (at + 1) s)
-    → k ≡ keyword_of words_1 (take (e - at) (drop at s)) → Some (hit k (e - at)) ≡ matched (best (map spelled words_1 ++ (rule IDENT (identifier digits_16) ∷ [])) (drop at s))
+    → k ≡ keyword_of words_1 (take (e - at) (drop at s)) → hit k (e - at) ≡ best (map spelled words_1 ++ (rule IDENT (identifier digits_16) ∷ [])) (drop at s)
 unfolding best
 word_hit s at e k h w q r =
     let n : e - at ≡ longest (identifier digits_16) (drop at s) = omega (arith, tail_after word_start digits_16 s at e h w q) in
     let f : best (rule IDENT (identifier digits_16) ∷ []) (drop at s) ≡ hit IDENT (longest (identifier digits_16) (drop at s)) =
     better_first (hit IDENT (longest (identifier digits_16) (drop at s))) (hit 0 0) (omega arith) (omega arith) in
-    matched_some (hit k (e - at)) (omega arith)
-    ∙ ap matched (ap (λ (j : ℕ). hit j (e - at)) r ∙ ap (λ (l : ℕ). hit (keyword_of words_1 (take l (drop at s))) l) n
-    ∙ sym (words_best (identifier digits_16) (drop at s) words_1 (rule IDENT (identifier digits_16) ∷ []) f (all_listed (drop at s))))
+    ap (λ (j : ℕ). hit j (e - at)) r ∙ ap (λ (l : ℕ). hit (keyword_of words_1 (take l (drop at s))) l) n
+    ∙ sym (words_best (identifier digits_16) (drop at s) words_1 (rule IDENT (identifier digits_16) ∷ []) f (all_listed (drop at s)))

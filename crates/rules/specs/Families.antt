@@ -6,7 +6,6 @@ use Rattle.tokens.specs.Kinds.{PATTERN_LENGTH, IDENT, FLOAT_LIT, INTEGER_LIT, ST
 use Rattle.tokens.specs.Unicode.{digits_16}
 use Rattle.tokens.specs.Tokens.{Rule, rule, spelled, tables_1, words_1, operators, pattern_word, identifier, float, integer, string, multi_line_string, regexp, block_comment, line_comment, blanks, newlines}
 use Rattle.tokens.specs.Scan.{best, rules}
-use Rattle.places.specs.Signs.{matched}
 
 abbrev pub spacing_rules : List Rule
 spacing_rules = rule WHITESPACE blanks ∷ map spelled newlines
@@ -31,4 +30,4 @@ comment_rules = rule COMMENT (block_comment char) ∷ rule COMMENT line_comment 
 
 -- a list of rules that gives the mode's longest match at a place
 abbrev pub Suffice : Mode → List ℕ → ℕ → List Rule → Type 0
-Suffice m s at rs = matched (best rs (drop at s)) ≡ matched (best (rules tables_1 m) (drop at s))
+Suffice m s at rs = best rs (drop at s) ≡ best (rules tables_1 m) (drop at s)

@@ -21,12 +21,12 @@ pub(crate) fn normal(src: &[u8], at: usize) -> Option<Hit>
         b if classes::is_dec(b) => number(src, at),
         b'"' => quoted(src, at),
         b'/' => slashed(src, at),
-        b'$' => marked(tokens::PATTERN_IDENT, src, at),
-        b'#' => marked(tokens::PATTERN_COUNT, src, at),
-        b'@' => marked(tokens::PATTERN_OFFSET, src, at),
+        b'$' => Some(marked(tokens::PATTERN_IDENT, src, at)),
+        b'#' => Some(marked(tokens::PATTERN_COUNT, src, at)),
+        b'@' => Some(marked(tokens::PATTERN_OFFSET, src, at)),
         b'!' => longer(
             operators::operator(src, at),
-            marked(tokens::PATTERN_LENGTH, src, at),
+            Some(marked(tokens::PATTERN_LENGTH, src, at)),
         ),
         _ => operators::operator(src, at),
     }
@@ -74,9 +74,12 @@ fn slashed(src: &[u8], at: usize) -> Option<Hit>
 }
 
 // A mark, as `$`, and the word's tail behind it.
-fn marked(kind: u32, src: &[u8], at: usize) -> Option<Hit>
+fn marked(kind: u32, src: &[u8], at: usize) -> Hit
     requires { at < length src.now }
     ensures { Marked kind src.now at result }
 {
-    one(kind, at, words::word_tail(src, at + 1))
+    Hit {
+        kind,
+        len: words::word_tail(src, at + 1) - at,
+    }
 }

@@ -13,4 +13,4 @@ returns-then-is_hex_or_mark c =
     c.is_hex_or_mark-then-is_hex_or_mark.ensures
 
 pub returns-else-is_hex_or_mark : goal.returns-else-is_hex_or_mark
-returns-else-is_hex_or_mark c = by_first c.byte_at.ensures c.is_hex_or_mark.ensures c.if-is_hex_or_mark.false
+returns-else-is_hex_or_mark c = rw c.if-is_hex_or_mark.false (by_first c.byte_at.ensures c.is_hex_or_mark.ensures c.if-is_hex_or_mark.false)

@@ -1,5 +1,9 @@
 -- The word ends where its tail does, and its kind is the keyword's or IDENT: what `word_hit` asks for.
 -- Assumes nothing.
+use Rattle.std.proofs.Common.{◌-◌, ap, ◌∙◌, arith}
+use Rattle.tokens.specs.Scan.{hit}
+use Rattle.places.specs.Signs.{matched}
+use Rattle.rules.proofs.Better.{matched_some}
 use Rattle.rules.proofs.Words.{tail_within, word_hit}
 use Rattle.rules.proofs.normal_mode.word.Goals as goal
 
@@ -11,4 +15,5 @@ slice_bounds-keyword-end c =
 pub returns : goal.returns
 returns c =
     let a = c.args in
-    word_hit a.src.now a.at c.word_tail-end.result c.keyword.result c.requires.0 c.requires.1 c.word_tail-end.ensures c.keyword.ensures
+    matched_some (hit c.keyword.result (c.word_tail-end.result - a.at)) (omega arith)
+    ∙ ap matched (word_hit a.src.now a.at c.word_tail-end.result c.keyword.result c.requires.0 c.requires.1 c.word_tail-end.ensures c.keyword.ensures)

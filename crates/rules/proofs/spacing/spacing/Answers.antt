@@ -3,11 +3,11 @@
 use Rattle.std.proofs.Common.{[], ◌∷◌, map}
 use Rattle.tokens.specs.Kinds.{WHITESPACE}
 use Rattle.tokens.specs.Tokens.{rule, spelled, blanks, newlines}
-use Rattle.rules.proofs.Better.{of_rule, of_both}
+use Rattle.rules.proofs.Better.{rule_matched, both_matched}
 use Rattle.rules.proofs.spacing.spacing.Goals as goal
 
 pub returns : goal.returns
 returns c =
     let a = c.args in
-    of_both a.src.now a.at (rule WHITESPACE blanks ∷ []) (map spelled newlines) c.longer.ensures
-    (of_rule a.src.now a.at WHITESPACE blanks c.one-blanks.ensures c.blanks.ensures) c.newline.ensures
+    both_matched a.src.now a.at (rule WHITESPACE blanks ∷ []) (map spelled newlines) c.longer.ensures
+    (rule_matched a.src.now a.at WHITESPACE blanks c.one-blanks.ensures c.blanks.ensures) c.newline.ensures
