@@ -9,7 +9,7 @@ ghost use Rattle.numbers.specs.Parts.{digit, run, digits, base_at, suffix, fract
 
 use places::has_byte;
 
-// Where the integer and the float end that start at one place; the place itself where there is none.
+// Where the integer and the float end that start at one place; the place itself where there is none, as the longest match has no byte.
 #[derive(Clone, Copy, Debug, PartialEq, Eq)]
 pub struct Ends {
     pub integer: usize,
@@ -24,7 +24,8 @@ enum Base {
     Hex,
 }
 
-// The digits of a base, and whether underscores may stand behind the first: in normal mode they may, in jump mode not.
+// The digits of a base, and whether underscores may stand behind the first: in normal mode they may, in jump mode not. The definition
+// `digits` of specs/ has both parts.
 #[derive(Clone, Copy, Debug, PartialEq, Eq)]
 struct Digits {
     base: Base,

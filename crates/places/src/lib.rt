@@ -1,4 +1,5 @@
 // What stands at a place of a source: a byte, a text.
+// Here and in the leaves a source and a place go side by side: a struct of both would be taken apart at every slice, and in every clause.
 #![tactic(auto)]
 
 ghost use Rattle.std.specs.Prelude.{◌≡◌, drop};

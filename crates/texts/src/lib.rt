@@ -9,6 +9,7 @@ ghost use Rattle.texts.specs.Quoted.{plain, quoted};
 ghost use Rattle.texts.specs.Regexps.{modifiers};
 
 // Whether `b` is an item by itself: no backslash, not the byte that closes the text, and LF only in a text that may have lines.
+// The flag is that of the definitions `plain` and `quoted` of specs/, which the theorems on strings and regexps are about.
 fn plain(b: u8, close: u8, lines: bool) -> bool
     ensures { result ≡ plain close lines b }
 {
@@ -26,7 +27,7 @@ fn pair(src: &[u8], at: usize) -> bool
     src[at] == b'\\' && src.get(at + 1).is_some_and(|b| *b != b'\n')
 }
 
-// The end of the row of items at `at`: plain bytes, and pairs.
+// The end of the row of items at `at`: plain bytes, and pairs. An item has one byte or two, so no iterator goes from item to item.
 fn items(src: &[u8], at: usize, close: u8, lines: bool) -> usize
     ensures { result ≡ at + longest (items (plain close lines)) (drop at src.now) }
 {
@@ -43,7 +44,7 @@ fn items(src: &[u8], at: usize, close: u8, lines: bool) -> usize
     i
 }
 
-// The end of the text at `at` between `quotes`, or `at` where there is none.
+// The end of the text at `at` between `quotes`, or `at` where there is none: there the longest match of the clause has no byte.
 fn quoted(src: &[u8], at: usize, quotes: &[u8], lines: bool) -> usize
     requires { get_or quotes.now 0 0 ≡ 34 }
     ensures { result ≡ at + longest (quoted quotes.now lines) (drop at src.now) }
