@@ -1,8 +1,7 @@
 -- `places::has` meets its contract: what is left of the source from the place on starts with the text, or does not (starts_is); past the
 -- end nothing is left. Assumes nothing.
-use Rattle.std.proofs.Common.{ℕ, ◌≡◌, ◌+◌, ◌-◌, ◌<◌, ◌≤◌, ◌⊎◌, refl, sym, ap, ◌∙◌, Bool, ◌&&◌, List, [], ◌∷◌, length, take, drop, take_all, length-drop, drop_of_length-le, eqb, arith, Option, Some, None, MatchOption, Bor, unwrap_or}
+use Rattle.std.proofs.Common.{ℕ, ◌≡◌, ◌+◌, ◌<◌, ◌≤◌, ◌⊎◌, refl, sym, ap, ◌∙◌, List, [], length, drop, take_all, length-drop, drop_of_length-le, eqb, arith, Option, Some, None, MatchOption, Bor, unwrap_or}
 use Rattle.std.specs.List.{starts_with, slice_range}
-use Rattle.patterns.specs.Walk.{prefix}
 use Rattle.places.specs.Places.{starts_is}
 use Rattle.places.proofs.has.Goals as goal
 

@@ -1,6 +1,6 @@
 -- `places::has_byte` meets its contract: past the end nothing stands, and else the byte there decides.
 -- Assumes nothing.
-use Rattle.std.proofs.Common.{ℕ, ◌≡◌, ◌<◌, ◌≤◌, sym, ap, ◌∙◌, Bool, List, [], ◌∷◌, length, drop, eqb, arith, Option, Some, None, MatchOption, Bor}
+use Rattle.std.proofs.Common.{ℕ, ◌≡◌, ◌<◌, ◌≤◌, sym, ap, ◌∙◌, List, [], ◌∷◌, length, drop, eqb, arith, Option, Some, None, MatchOption, Bor}
 use Rattle.std.specs.Option.{option_eq}
 use Rattle.std.specs.List.{HoldsAt}
 use Rattle.patterns.specs.Walk.{prefix}
