@@ -1,7 +1,6 @@
 -- Theorems about what stands in specs/, in modules of the same names.
 pub mod ListedExamples
 pub mod Turns
-pub mod Ended
 pub mod ListedLaws
 pub mod Examples
 pub mod Put

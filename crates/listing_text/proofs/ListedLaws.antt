@@ -1,6 +1,6 @@
 -- The cases of what `list` answers, from what opening for a listing says; how much room is always enough; and that the contract
 -- leaves no choice. Each is one look at the definition's tests. Assumes nothing.
-use Rattle.std.specs.Prelude.{ℕ, ◌+◌, ◌≤◌, ◌≡◌, refl, Bool, cond, List, ◌++◌, take, drop}
+use Rattle.std.specs.Prelude.{ℕ, ◌+◌, ◌≤◌, ◌≡◌, refl, Bool, cond, List, ◌++◌, take, drop, Result, Ok, Err}
 use Rattle.std.proofs.Common.{ap, ◌∙◌, arith, length-append}
 use Rattle.std.proofs.Math.Bool.{true, false}
 use Rattle.std.proofs.Math.ListN.{length}
@@ -9,6 +9,7 @@ use Rattle.std.proofs.Math.Dec.{leb}
 use Rattle.std.proofs.Common.{leb-true, le-leb}
 use Rattle.patterns.specs.Determined.{Once}
 use Rattle.patterns.proofs.Determined.{once}
+use Rattle.refusals.specs.declared.Refusal.{Refusal}
 use Rattle.refusals.specs.Calls.{Reply, reply}
 use Rattle.refusals.specs.RefusalLaws.{read_back}
 use Rattle.tokens.specs.declared.Mode.TheVariants.{Normal}
@@ -18,8 +19,6 @@ use Rattle.reader.specs.Reading.{source_limit, start}
 use Rattle.reader.specs.Reading as reading
 use Rattle.reader.specs.Following.{Sound, rest}
 use Rattle.reader.proofs.Following.{start_sound}
-use Rattle.listing_text.specs.declared.Listed.{Listed}
-use Rattle.listing_text.specs.declared.Listed.TheVariants.{Written, Refused}
 use Rattle.listing_text.specs.Listing.{text}
 use Rattle.listing_text.specs.Listed.{Answer, written, refused, at_front, listed, listed_told, outcome}
 use Rattle.listing_text.specs.Put.{put, Wrote}
@@ -96,9 +95,9 @@ module _ (src out : List ℕ) where
   listed_written {n} {o} e =
       front_text (text (tokens tables_1 Normal src)) out (not_refused (leb (length src) source_limit) (at_front (text (tokens tables_1 Normal src)) out) 1 out e)
 
-listed_same : (g : Listed) → listed_read (listed_told g) ≡ g
-listed_same (Written n) = refl
-listed_same (Refused n) = ap Refused (read_back n)
+listed_same : (g : Result ℕ Refusal) → listed_read (listed_told g) ≡ g
+listed_same (Ok n) = refl
+listed_same (Err x) = ap (λ (y : Refusal). Err y) (read_back x)
 
-pub listed_once : Once (λ (p : Listed × List ℕ). outcome p.0 p.1)
-listed_once = once _ (λ r. (listed_read r.answer, r.after)) (λ p. ap (λ (g : Listed). (g, p.1)) (listed_same p.0))
+pub listed_once : Once (λ (p : Result ℕ Refusal × List ℕ). outcome p.0 p.1)
+listed_once = once _ (λ r. (listed_read r.answer, r.after)) (λ p. ap (λ (g : Result ℕ Refusal). (g, p.1)) (listed_same p.0))

@@ -1,11 +1,15 @@
 -- Bytes written into a lent list, whose other bytes stay. Where there is room this is one store after the other, and so two texts
 -- written one behind the other are both written at once. Assumes nothing.
 use Rattle.std.specs.Prelude.{ℕ, suc, ◌+◌, ◌-◌, ◌≤◌, ◌<◌, ◌≡◌, List, [], ◌∷◌, ◌++◌, take, get_or, set}
-use Rattle.std.proofs.Common.{sym, ◌∙◌, append_assoc, add-zero, add-one, arith, length-drop, drop-cons, drop-drop, take_at, length-take-le}
+use Rattle.std.proofs.Common.{refl, sym, ◌∙◌, append_assoc, add-zero, add-one, arith, length-drop, drop-cons, drop-drop, take_at, length-take-le}
 use Rattle.std.proofs.Math.Path.{ap}
 use Rattle.std.proofs.Math.ListN.{length, drop, length-append}
+use Rattle.std.proofs.lemmas.List.{drop-append-le, take-append-drop}
 use Rattle.std.proofs.lemmas.List.Edits.{sets, sets-eq}
-use Rattle.std.proofs.Math.Seq.{length-sets, slice, drop-length, drop_at, drop-append_seam, take-take, take-append-le}
+use Rattle.std.proofs.lemmas.Slice.{between_is}
+use Rattle.std.proofs.Math.Seq.{length-sets, slice, length-slice, drop-length, drop_at, drop-append_seam, take-take, take-append-le}
+use borrow.Rule.Slice.PartMut.{put_mid}
+use Rattle.std.specs.List.{copy_within}
 use Rattle.listing_text.specs.Put.{Wrote, put}
 
 -- Where there is room, to put bytes is to store one after the other.
@@ -95,6 +99,51 @@ module _ (at i : ℕ) (bs out : List ℕ) (room : at + length bs ≤ length out)
 
   pub put_done : i ≡ length bs → put (at + i) (drop i bs) out ≡ out
   put_done e = rw (e, drop-length bs) (put_nil (at + length bs) out room)
+
+-- the one byte of a part
+pub set_only : (l : List ℕ) (b : ℕ) → length l ≡ 1 → set l 0 b ≡ b ∷ []
+set_only [] b e = absurd (omega arith)
+set_only (x ∷ []) b e = refl
+set_only (x ∷ y ∷ l) b e = absurd (omega arith)
+
+-- a part that is lent, and written at its front
+pub wrote_part : {a k r : ℕ} {bs out ys : List ℕ} → a + k ≤ length out → length bs ≤ k → Wrote 0 bs (take k (drop a out)) ys r
+    → Wrote a bs out (put_mid a k out ys) (a + r)
+unfolding put
+wrote_part {a} {k} {bs = bs} {out} {ys} room h f =
+    let d = drop a out in
+    let z : 0 + length bs ≡ length bs = omega arith in
+    let e : ys ≡ bs ++ drop (length bs) (take k d) = f.bytes ∙ ap (λ n. bs ++ drop n (take k d)) z in
+    let s : drop (length bs) (take k d) ++ drop k d ≡ drop (a + length bs) out =
+    sym (drop-append-le (length bs) (take k d) (drop k d) (omega (arith, length-take-le k d (omega (arith, length-drop a out)))))
+    ∙ ap (drop (length bs)) (take-append-drop k d)
+    ∙ drop-drop (length bs) a out in
+    record { bytes = rw (e, append_assoc bs (drop (length bs) (take k d)) (drop k d), s); behind = omega (arith, f.behind) }
+
+-- the front, filled
+pub wrote_front : {n : ℕ} {bs : List ℕ} (out : List ℕ) → n ≡ length bs → Wrote 0 bs out (bs ++ drop n out) n
+unfolding put
+wrote_front {bs = bs} out e = let z : 0 + length bs ≡ length bs = omega arith in record { bytes = rw (e, z); behind = omega arith }
+
+-- three parts of the front, filled
+pub wrote_three : {i j k : ℕ} (a b c out : List ℕ) → i ≡ length a → j ≡ length b → k ≡ length c
+    → Wrote 0 (a ++ b ++ c) out (a ++ (b ++ (c ++ drop k (drop j (drop i out))))) (length a + length b + length c)
+wrote_three {i} {j} {k} a b c out d e f =
+    let l : length a + length b + length c ≡ length (a ++ b ++ c) = simp length-append in
+    rw (d, e, f, drop-drop (length b) (length a) out, drop-drop (length c) (length a + length b) out, ← append_assoc a b, ← append_assoc (a ++ b) c)
+    (wrote_front out l)
+
+-- n bytes copied from one place to another
+pub wrote_within : (i n at : ℕ) (out : List ℕ) → i + n ≤ length out → Wrote at (slice i (i + n) out) out (copy_within out i (i + n) at) (at + n)
+unfolding put
+wrote_within i n at out h =
+    let e : i + n - i ≡ n = omega arith in
+    let b : take n (drop i out) ≡ slice i (i + n) out = rw e at (between_is out i (i + n)) in
+    let l : length (slice i (i + n) out) ≡ n = omega (arith, length-slice i (i + n) out h) in
+    record {
+      bytes = rw (e, b, l) (append_assoc (take at out) (slice i (i + n) out) (drop (at + n) out));
+      behind = omega arith;
+    }
 
 -- two calls, one behind the other
 pub wrote_both : {at r s : ℕ} {a b x y z : List ℕ} → Wrote at a x y r → Wrote r b y z s → at + length a + length b ≤ length x → Wrote at (a ++ b) x z s

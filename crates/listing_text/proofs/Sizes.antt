@@ -1,13 +1,12 @@
 -- How long a listing can be. A kind is below 100 and an offset below 100000, so no line has more than 15 bytes; and since no token is
 -- empty, no source has more tokens than bytes. Assumes nothing.
-use Rattle.std.specs.Prelude.{ℕ, ◌+◌, ◌*◌, ◌≤◌, ◌≡◌, refl, List, [], ◌∷◌, length, leb}
+use Rattle.std.specs.Prelude.{ℕ, ◌+◌, ◌*◌, ◌≤◌, ◌≡◌, refl, List, [], ◌∷◌, length, leb, Some}
 use Rattle.std.proofs.Common.{arith, leb-true}
 use Rattle.patterns.specs.Utf8.{between}
 use Rattle.patterns.proofs.Bools.{and_second}
 use Rattle.patterns.specs.Lists.{All}
 use Rattle.tokens.specs.declared.Mode.{Mode}
 use Rattle.tokens.specs.declared.Token.{Token}
-use Rattle.tokens.specs.declared.Scanned.TheVariants.{Found}
 use Rattle.tokens.specs.Tokens.{tables_1}
 use Rattle.tokens.specs.Scan.{scan, list_from}
 use Rattle.tokens.specs.ScanLaws.{Step}
@@ -30,7 +29,7 @@ lines_short [] h = omega arith
 lines_short (x ∷ xs) h = omega (arith, length_lines x xs, line_short x h.0, lines_short xs h.1)
 
 module _ (src : List ℕ) (r : Reader) (h : Sound src r) where
-  small : (at : ℕ) (m : Mode) (x : Token) (m' : Mode) → scan tables_1 src at m ≡ Found x m' → Small x
+  small : (at : ℕ) (m : Mode) (x : Token) (m' : Mode) → scan tables_1 src at m ≡ Some (x, m') → Small x
   small at m x m' e =
       let s : Step src at x = scan_found tables_1 src at m x m' e in
       let k : x.kind ≤ 82 = leb-true x.kind 82 (and_second (leb 1 x.kind) (leb x.kind 82) (scan_kind (between 1 82) tables_1 kinds_1 refl refl src at m x m' e)) in

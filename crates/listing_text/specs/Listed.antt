@@ -1,14 +1,13 @@
 -- What a call of `list` answers, and what it leaves in the lent bytes: document 01's refusal 1 first, then 15 where the text has no
 -- room; on a refusal every byte stays. Assumes nothing.
-use Rattle.std.specs.Prelude.{ℕ, cond, List, length, leb}
+use Rattle.std.specs.Prelude.{ℕ, cond, List, length, leb, Result, Ok, Err}
+use Rattle.refusals.specs.declared.Refusal.{Refusal}
 use Rattle.refusals.specs.Refusals.{number_of}
 use Rattle.refusals.specs.Calls.{Reply, reply}
 use Rattle.tokens.specs.declared.Mode.TheVariants.{Normal}
 use Rattle.tokens.specs.Tokens.{tables_1}
 use Rattle.tokens.specs.Scan.{list_from, tokens}
 use Rattle.reader.specs.Reading.{source_limit}
-use Rattle.listing_text.specs.declared.Listed.{Listed}
-use Rattle.listing_text.specs.declared.Listed.TheVariants as of_listed
 use Rattle.listing_text.specs.Listing.{text}
 use Rattle.listing_text.specs.Put.{put}
 
@@ -27,9 +26,9 @@ unfolding text list_from at_front
 listed src out = cond (leb (length src) source_limit) (at_front (text (tokens tables_1 Normal src)) out) (reply (refused 1) out)
 
 -- The code's answer in these values, with the bytes.
-abbrev pub listed_told : Listed → Answer
-listed_told (of_listed.Written n) = written n
-listed_told (of_listed.Refused n) = refused (number_of n)
+abbrev pub listed_told : Result ℕ Refusal → Answer
+listed_told (Ok n) = written n
+listed_told (Err x) = refused (number_of x)
 
-abbrev pub outcome : Listed → List ℕ → Reply Answer (List ℕ)
+abbrev pub outcome : Result ℕ Refusal → List ℕ → Reply Answer (List ℕ)
 outcome g out = reply (listed_told g) out

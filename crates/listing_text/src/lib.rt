@@ -1,9 +1,8 @@
 // The listing of a source, as document 01 shows it, written into a lent buffer. What its text is stands in specs/Listing.
 #![tactic(auto)]
 
-ghost use Rattle.std.specs.Prelude.{◌+◌, ◌≤◌, ◌<◌, ◌≡◌, length};
-ghost use Rattle.std.proofs.Math.Seq.{slice};
-ghost use Rattle.reader.specs.Following.{Sound, rest};
+ghost use Rattle.std.specs.Prelude.{◌+◌, ◌≤◌, ◌≡◌, length};
+ghost use Rattle.reader.specs.Following.{rest};
 ghost use Rattle.listing_text.specs.Listing.{decimal, field, line, lines, head, text};
 ghost use Rattle.listing_text.specs.Put.{Wrote};
 ghost use Rattle.listing_text.specs.Listed.{outcome, listed};
@@ -11,139 +10,103 @@ ghost use Rattle.listing_text.specs.Listed.{outcome, listed};
 mod form;
 mod size;
 
-use crate::form::number_len;
-use reader::{Opened, Reader, Scan};
+use crate::form::{field_len, head_len};
+use reader::Tokens;
 use refusals::Refusal;
 use tokens::Token;
 
-// What listing answers: how many bytes the text has that stands at the front of what was lent; or a refusal.
-#[derive(Clone, Copy)]
-pub enum Listed {
-    Written(usize),
-    Refused(Refusal),
-}
-
-// Writes the listing of a source at the front of `out`. The bytes behind it stay as they were; on a refusal all of them do.
-pub fn list(src: &[u8], out: &mut [u8]) -> Listed
+// Writes the listing of a source at the front of `out`, and answers how many bytes it has. The bytes behind it stay as they were; on a
+// refusal all of them do.
+pub fn list(src: &[u8], out: &mut [u8]) -> Result<usize, Refusal>
     ensures { outcome result out.new ≡ listed src.now out.old }
 {
-    match size::open_fitting(src, out.len()) {
-        Opened::Ready(start) => Listed::Written(put_text(out, src, start)),
-        Opened::Refused(refusal) => Listed::Refused(refusal),
-    }
+    let tokens = size::open_fitting(src, out.len())?;
+    Ok(put_text(out, tokens))
 }
 
-// Each function `put_..` writes at a place of `out` where there is room, changes nothing else, and answers the place behind.
-
-// The whole text. The first line has 8 bytes and the digits of a number: the lines are put as if that had one, and moved up by the others.
-fn put_text(out: &mut [u8], src: &[u8], start: Reader) -> usize
-    requires sound { Sound src.now start }
-    requires start_in_bounds { length (text (rest src.now start)) ≤ length out.old }
-    ensures { Wrote 0 (text (rest src.now start)) out.old out.new result }
+// The whole text, at the front of `out`. The first line has 8 bytes and the digits of a number: the lines are put as if that had one,
+// and moved up by the others.
+#[tactic(auto, using(crate::proofs::Numbers::length_text, crate::proofs::Numbers::head_least))]
+fn put_text(out: &mut [u8], tokens: Tokens<'_>) -> usize
+    requires { length (text (rest tokens.src.now tokens.reader)) ≤ length out.old }
+    ensures { Wrote 0 (text (rest tokens.entry.src.now tokens.entry.reader)) out.old out.new result }
 {
-    let lines = put_lines(out, 9, src, start);
-    let by = number_len(lines.tokens) - 1;
-    let behind = put_up(out, 9, lines.behind, by);
-    put_head(out, 0, lines.tokens);
-    behind
+    let lines = put_lines(&mut out[9..], tokens);
+    let at = head_len(lines.count);
+    out.copy_within(9..9 + lines.len, at);
+    put_head(&mut out[..at], lines.count);
+    at + lines.len
 }
 
-// How many lines were put, and the place behind.
+// How many lines were put, and how many bytes they have.
 #[derive(Clone, Copy)]
 struct Lines {
-    tokens: u32,
-    behind: usize,
+    count: u32,
+    len: usize,
 }
 
-// The lines of the tokens from a reader on.
-fn put_lines(out: &mut [u8], at: usize, src: &[u8], start: Reader) -> Lines
-    requires sound { Sound src.now start }
-    requires start_in_bounds { at + length (lines (rest src.now start)) ≤ length out.old }
-    ensures tokens_value { result.tokens ≡ length (rest src.now start) }
-    ensures wrote { Wrote at (lines (rest src.now start)) out.old out.new result.behind }
+// The lines of tokens, at the front of `out`.
+fn put_lines(out: &mut [u8], tokens: Tokens<'_>) -> Lines
+    requires { length (lines (rest tokens.src.now tokens.reader)) ≤ length out.old }
+    ensures count { result.count ≡ length (rest tokens.entry.src.now tokens.entry.reader) }
+    ensures wrote { Wrote 0 (lines (rest tokens.entry.src.now tokens.entry.reader)) out.old out.new result.len }
 {
-    let mut tokens: u32 = 0;
-    let mut behind = at;
-    let mut reader = start;
-    loop {
-        let Scan::Found(token, next) = reader.scan(src) else {
-            return Lines { tokens, behind };
-        };
-        tokens += 1;
-        behind = put_line(out, behind, token);
-        reader = next;
+    let mut count = 0;
+    let mut len = 0;
+    for token in tokens {
+        count += 1;
+        len += put_line(&mut out[len..], token);
     }
+    Lines { count, len }
 }
 
-// The bytes of `out` from one place to another, so many places further up: from the last to the first, since the two parts may overlap.
-fn put_up(out: &mut [u8], from: usize, to: usize, by: usize) -> usize
-    requires from_le_to { from ≤ to }
-    requires by_in_bounds { to + by ≤ length out.old }
-    ensures { Wrote (from + by) (slice from to out.old) out.old out.new result }
+// A token's line, at the front of `out`.
+#[tactic(auto, using(crate::proofs::Numbers::length_line))]
+fn put_line(out: &mut [u8], token: Token) -> usize
+    requires { length (line token) ≤ length out.old }
+    ensures { Wrote 0 (line token) out.old out.new result }
 {
-    let mut i = to;
-    while i > from {
-        i -= 1;
-        out[i + by] = out[i];
-    }
-    to + by
+    let (kind, span) = out.split_at_mut(field_len(token.kind));
+    let (start, behind) = span.split_at_mut(field_len(token.start.0));
+    let (end, _) = behind.split_at_mut(field_len(token.end.0));
+    put_field(kind, token.kind, b' ');
+    put_field(start, token.start.0, b' ');
+    put_field(end, token.end.0, b'\n');
+    kind.len() + start.len() + end.len()
 }
 
-// A token's line.
-fn put_line(out: &mut [u8], at: usize, token: Token) -> usize
-    requires { at + length (line token) ≤ length out.old }
-    ensures { Wrote at (line token) out.old out.new result }
-{
-    let start_at = put_field(out, at, token.kind, b' ');
-    let end_at = put_field(out, start_at, token.start.0, b' ');
-    put_field(out, end_at, token.end.0, b'\n')
-}
+// Each function from here on is lent just the bytes of a text, and writes that.
 
 // The first line: `tokens` and how many.
-fn put_head(out: &mut [u8], at: usize, n: u32) -> usize
-    requires { at + length (head n) ≤ length out.old }
-    ensures { Wrote at (head n) out.old out.new result }
+#[tactic(auto, using(crate::proofs::Numbers::length_head), unfolding(crate::specs::Listing::head))]
+fn put_head(out: &mut [u8], n: u32)
+    requires { length out.old ≡ length (head n) }
+    ensures { out.new ≡ head n }
 {
-    let n_at = put_bytes(out, at, b"tokens ");
-    put_field(out, n_at, n, b'\n')
+    let (word, count) = out.split_at_mut(7);
+    word.copy_from_slice(b"tokens ");
+    put_field(count, n, b'\n');
 }
 
 // A number, and the byte behind it.
-fn put_field(out: &mut [u8], at: usize, n: u32, b: u8) -> usize
-    requires { at + length (decimal n) < length out.old }
-    ensures { Wrote at (field n b) out.old out.new result }
+#[tactic(auto, using(crate::proofs::Put::set_only), unfolding(crate::specs::Listing::field))]
+fn put_field(out: &mut [u8], n: u32, b: u8)
+    requires { length out.old ≡ length (decimal n) + 1 }
+    ensures { out.new ≡ field n b }
 {
-    let behind = put_number(out, at, n);
-    out[behind] = b;
-    behind + 1
+    let (number, behind) = out.split_at_mut(out.len() - 1);
+    put_number(number, n);
+    behind[0] = b;
 }
 
 // The digits of a number, from the last one to the first.
-fn put_number(out: &mut [u8], at: usize, n: u32) -> usize
-    requires { at + length (decimal n) ≤ length out.old }
-    ensures { Wrote at (decimal n) out.old out.new result }
+fn put_number(out: &mut [u8], n: u32)
+    requires { length out.old ≡ length (decimal n) }
+    ensures { out.new ≡ decimal n }
 {
-    let behind = at + number_len(n);
-    let mut i = behind;
     let mut left = n;
-    while left >= 10 {
-        i -= 1;
+    for i in (0..out.len()).rev() {
         out[i] = b'0' + (left % 10) as u8;
-        left = left / 10;
+        left /= 10;
     }
-    out[at] = b'0' + left as u8;
-    behind
-}
-
-// A text, byte by byte.
-fn put_bytes(out: &mut [u8], at: usize, bytes: &[u8]) -> usize
-    requires { at + length bytes.now ≤ length out.old }
-    ensures { Wrote at bytes.now out.old out.new result }
-{
-    let mut i = 0;
-    while i < bytes.len() {
-        out[at + i] = bytes[i];
-        i += 1;
-    }
-    at + i
 }

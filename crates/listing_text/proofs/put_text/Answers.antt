@@ -1,50 +1,34 @@
 -- `listing_text::put_text` meets its contract: the lines, moved up to where the first line ends, and that line in front of them are the
 -- text; and since no first line is shorter than 9 bytes, the text covers the place where the lines stood first. Assumes nothing.
-use Rattle.std.proofs.Common.{ℕ, ◌+◌, ◌≤◌, ◌≡◌, ap, List, arith, length}
-use Rattle.std.proofs.Math.Seq.{slice}
-use Rattle.tokens.specs.declared.Token.{Token}
+use borrow.Rule.Slice.PartMut.{put_mid}
+use Rattle.std.proofs.Common.{◌+◌, ◌-◌, ◌≤◌, ◌≡◌, sym, ap, ◌∙◌, arith, length, length-take-le}
+use Rattle.std.proofs.lemmas.Grind.{common_steps}
 use Rattle.reader.specs.Following.{rest}
-use Rattle.listing_text.specs.Listing.{lines, head, text}
-use Rattle.listing_text.specs.Put.{Wrote}
-use Rattle.listing_text.proofs.Put.{wrote_up}
-use Rattle.listing_text.proofs.Numbers.{length_head, head_least, text_parts, length_text}
+use Rattle.listing_text.specs.Listing.{lines, head}
+use Rattle.listing_text.proofs.Put.{length_put, wrote_part, wrote_within, wrote_front, wrote_up}
+use Rattle.listing_text.proofs.Numbers.{head_least, length_text, text_parts}
 use Rattle.listing_text.proofs.put_text.Goals as goal
 
--- n is the number of the tokens
-module _ (xs : List Token) {n : ℕ} (e : n ≡ length xs) where
-  length_parts : length (text xs) ≡ length (head n) + length (lines xs)
-  length_parts = omega (arith, length_text xs, ap (λ m. length (head m)) e)
-
-  text_up : {up k r s : ℕ} {x y z w : List ℕ} → Wrote 9 (lines xs) x y k → Wrote up (slice 9 k y) y z r → Wrote 0 (head n) z w s → up ≡ length (head n)
-      → length (text xs) ≤ length x → Wrote 0 (text xs) x w r
-  text_up f g h u room = rw (text_parts xs, ← e) (wrote_up f g h (omega (arith, head_least n)) u (omega (arith, length_parts)))
-
-pub put_lines-lines-requires : goal.put_lines-lines-requires
-put_lines-lines-requires c =
-    let xs = rest c.args.src.now c.args.start in
-    record { sound = c.requires.sound; start_in_bounds = omega (arith, c.requires.start_in_bounds, length_text xs, head_least (length xs)) }
-
-pub overflow_sub-by : goal.overflow_sub-by
-overflow_sub-by c =
-    let n = c.put_lines-lines.result.tokens in
-    omega (arith, head_least n, length_head n)
-
-pub put_up-behind-requires : goal.put_up-behind-requires
-put_up-behind-requires c =
-    let p = c.put_lines-lines in
-    let n = p.result.tokens in
-    let m = length_parts (rest c.args.src.now c.args.start) p.ensures.tokens_value in
-    record { from_le_to = omega arith; by_in_bounds = omega (arith, c.requires.start_in_bounds, m, head_least n, length_head n, p.auto.out) }
+pub slice_bounds-put_head-end-2 : goal.slice_bounds-put_head-end-2
+slice_bounds-put_head-end-2 c =
+    sym (length-take-le c.head_len-at.result c.copy_within.new.self (grind (arith, common_steps, length_text, head_least)))
 
 pub put_head-requires : goal.put_head-requires
 put_head-requires c =
-    let p = c.put_lines-lines in
-    let m = length_parts (rest c.args.src.now c.args.start) p.ensures.tokens_value in
-    omega (arith, c.requires.start_in_bounds, m, p.auto.out, c.put_up-behind.auto.out)
+    length-take-le c.head_len-at.result c.copy_within.new.self (grind (arith, common_steps, length_text, head_least)) ∙ c.head_len-at.ensures.0
 
 pub returns : goal.returns
 returns c =
+    let out = c.args.out.now in
     let p = c.put_lines-lines in
-    let n = p.result.tokens in
-    text_up (rest c.args.src.now c.args.start) p.ensures.tokens_value p.ensures.wrote c.put_up-behind.ensures c.put_head.ensures
-    (omega (arith, head_least n, length_head n)) c.requires.start_in_bounds
+    let n = p.result.count in
+    let xs = rest c.args.tokens.src.now c.args.tokens.reader in
+    let y = put_mid 9 (length out - 9) out p.new.out in
+    let e : length (head n) ≡ length (head (length xs)) = ap (λ m. length (head m)) p.ensures.count in
+    let room : length (head n) + length (lines xs) ≤ length out = omega (arith, c.requires, length_text xs, e) in
+    let f = wrote_part {out = out} (omega (arith, head_least n)) (omega (arith, head_least n)) p.ensures.wrote in
+    let l : length y ≡ length out = ap length f.bytes ∙ length_put 9 (lines xs) out (omega (arith, head_least n)) in
+    let g = wrote_within 9 p.result.len c.head_len-at.result y (omega (arith, head_least n, f.behind)) in
+    let h = wrote_front c.copy_within.new.self c.head_len-at.ensures.0 in
+    rw (c.put_head.ensures, text_parts xs, ← p.ensures.count)
+    (wrote_up f (rw (← c.copy_within.ensures.after) at g) h (omega (arith, head_least n)) c.head_len-at.ensures.0 room)
