@@ -24,6 +24,6 @@ fn place(live: &[TokenIndex], mark: TokenIndex) -> usize
     ensures within { result ≤ length live.now }
 {
     live.iter()
-        .position(|other| mark.0 < other.0)
+        .position(|other| mark < *other)
         .unwrap_or(live.len())
 }

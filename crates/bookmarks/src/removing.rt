@@ -30,5 +30,5 @@ fn find(bookmarks: &Bookmarks, live: u32, mark: TokenIndex) -> Option<usize>
     bookmarks
         .iter()
         .take(live as usize)
-        .position(|other| other.0 == mark.0)
+        .position(|other| *other == mark)
 }

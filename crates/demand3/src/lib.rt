@@ -1,2 +1,2 @@
-// Demand 3 of the window. It stands in specs/: a theorem, not a program.
+// Demand 3 of the window: a theorem, not a program. What it says stands in specs/, its proof in proofs/.
 #![tactic(auto)]

@@ -6,16 +6,13 @@ use Rattle.token_room.proofs.read.Goals as goal
 
 pub read_at-requires : goal.read_at-requires
 read_at-requires c =
-    let s = c in
-    let a = s in
-    slot_inside a.args.room.now a.args.i s.slots-n.ensures c.if-n-gt0.true c.slot_of.ensures
+    let a = c.args in
+    slot_inside a.room.now a.i c.slots-n.ensures c.if-n-gt0.true c.slot_of.ensures
 
 pub returns-then-n-gt0 : goal.returns-then-n-gt0
 returns-then-n-gt0 c =
-    let t = c in
-    let s = t in
-    let a = s in
-    c.read_at.ensures ∙ read_slot a.args.room.now a.args.i s.slots-n.ensures t.if-n-gt0.true t.slot_of.ensures
+    let a = c.args in
+    c.read_at.ensures ∙ read_slot a.room.now a.i c.slots-n.ensures c.if-n-gt0.true c.slot_of.ensures
 
 pub returns-else-n-gt0 : goal.returns-else-n-gt0
-returns-else-n-gt0 c = let a = c in read_none a.args.room.now a.args.i c.slots-n.ensures c.if-n-gt0.false
+returns-else-n-gt0 c = let a = c.args in read_none a.room.now a.i c.slots-n.ensures c.if-n-gt0.false

@@ -6,19 +6,16 @@ use Rattle.token_room.proofs.write.Goals as goal
 
 pub write_at-requires : goal.write_at-requires
 write_at-requires c =
-    let s = c in
-    let a = s in
-    slot_inside a.args.room.now a.args.i s.slots-n.ensures c.if-n-gt0.true c.slot_of.ensures
+    let a = c.args in
+    slot_inside a.room.now a.i c.slots-n.ensures c.if-n-gt0.true c.slot_of.ensures
 
 pub returns-then-n-gt0 : goal.returns-then-n-gt0
 returns-then-n-gt0 c =
-    let t = c in
-    let s = t in
-    let a = s in
+    let a = c.args in
     c.write_at.ensures
-    ∙ write_slot a.args.room.now a.args.i s.slots-n.ensures t.if-n-gt0.true t.slot_of.ensures a.args.token
+    ∙ write_slot a.room.now a.i c.slots-n.ensures c.if-n-gt0.true c.slot_of.ensures a.token
 
 pub returns-else-n-gt0 : goal.returns-else-n-gt0
 returns-else-n-gt0 c =
-    let a = c in
-    write_none a.args.room.now a.args.i c.slots-n.ensures c.if-n-gt0.false a.args.token
+    let a = c.args in
+    write_none a.room.now a.i c.slots-n.ensures c.if-n-gt0.false a.token
