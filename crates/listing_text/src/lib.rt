@@ -45,7 +45,7 @@ struct Lines {
     len: usize,
 }
 
-// The lines of tokens, at the front of `out`.
+// The lines of tokens, at the front of `out`. They are counted by hand as they are put: `count` would scan the source once more.
 fn put_lines(out: &mut [u8], tokens: Tokens<'_>) -> Lines
     requires { length (lines (rest tokens.src.now tokens.reader)) ≤ length out.old }
     ensures count { result.count ≡ length (rest tokens.entry.src.now tokens.entry.reader) }
@@ -99,7 +99,7 @@ fn put_field(out: &mut [u8], n: u32, b: u8)
     behind[0] = b;
 }
 
-// The digits of a number, from the last one to the first.
+// The digits of a number, from the last one to the first; by index, since of what is written by `iter_mut` a proof knows the length alone.
 fn put_number(out: &mut [u8], n: u32)
     requires { length out.old ≡ length (decimal n) }
     ensures { out.new ≡ decimal n }
