@@ -12,4 +12,4 @@ returns-in-Ok c =
 pub returns-in-Err : goal.returns-in-Err
 returns-in-Err c =
     let a = c.args in
-    rw c.from.ensures.from_gives (listing_so a.src.now a.out.now a.len.now (Err c.in-Err.refusal) c.in-Err.is c.list.ensures)
+    rw c.from.ensures (listing_so a.src.now a.out.now a.len.now (Err c.in-Err.refusal) c.in-Err.is c.list.ensures)
