@@ -13,11 +13,8 @@ pub fn line_comment(src: &[u8], at: usize) -> usize
     if !places::has(src, at, b"//") {
         return at;
     }
-    let mut i = at + 2;
-    while i < src.len() && src[i] != b'\n' {
-        i += 1;
-    }
-    i
+    let rest = &src[at + 2..];
+    at + 2 + rest.iter().position(|b| *b == b'\n').unwrap_or(rest.len())
 }
 
 // The end of the block comment at `at`, or `at` where there is none. With `chars` it holds well-formed characters only, and else any bytes.

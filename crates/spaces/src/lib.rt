@@ -1,63 +1,26 @@
 // White space: runs of blanks, and text that goes on up to white space.
 #![tactic(auto)]
 
-ghost use Rattle.std.specs.Prelude.{◌+◌, ◌<◌, ◌≡◌, length, drop};
-ghost use Rattle.patterns.specs.Utf8.{decode};
+ghost use Rattle.std.specs.Prelude.{◌+◌, ◌≡◌, drop};
 ghost use Rattle.patterns.specs.Pattern.{longest};
 ghost use Rattle.tokens.specs.Unicode.{white};
 ghost use Rattle.tokens.specs.Tokens.{blank, blanks};
 ghost use Rattle.tokens.specs.Scan.{plain};
 
-use patterns::Char;
-use utf8::decode_at;
+use utf8::run_end;
 
 // The end of the blank run at `at`, or `at` where there is none.
 pub fn blanks(src: &[u8], at: usize) -> usize
     ensures { result ≡ at + longest blanks (drop at src.now) }
 {
-    let mut i = at;
-    while i < src.len() {
-        let Some(c) = char_at(src, i) else {
-            return i;
-        };
-        if !is_blank(c.value) {
-            return i;
-        }
-        i += c.len;
-    }
-    i
+    run_end(src, at, is_blank)
 }
 
 // The end of the well-formed text at `at` up to the first White_Space character.
 pub fn plain_text(src: &[u8], at: usize) -> usize
     ensures { result ≡ at + longest plain (drop at src.now) }
 {
-    let mut i = at;
-    while i < src.len() {
-        let Some(c) = char_at(src, i) else {
-            return i;
-        };
-        if is_white(c.value) {
-            return i;
-        }
-        i += c.len;
-    }
-    i
-}
-
-// The character at `at`, without decoding where it is ASCII.
-fn char_at(src: &[u8], at: usize) -> Option<Char>
-    requires { at < length src.now }
-    ensures { result ≡ decode (drop at src.now) }
-{
-    let b = src[at];
-    if b < 0x80 {
-        return Some(Char {
-            value: u32::from(b),
-            len: 1,
-        });
-    }
-    decode_at(src, at)
+    run_end(src, at, |v| !is_white(v))
 }
 
 // Whether `v` may stand in a blank run. Not every White_Space character may: U+0085 and U+3000 are no blanks.

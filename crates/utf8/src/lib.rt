@@ -2,8 +2,9 @@
 #![tactic(auto)]
 
 ghost use Rattle.std.specs.Prelude.{◌<◌, ◌≡◌, drop, Some};
-ghost use Rattle.patterns.specs.Utf8.{lead, longer, finish, decode};
+ghost use Rattle.patterns.specs.Utf8.{Class, lead, longer, finish, decode};
 ghost use Rattle.utf8.specs.Rest.{Bounded};
+ghost use Rattle.utf8.specs.Runs.{Decided, run_end};
 
 use patterns::{Char, Lead};
 
@@ -22,6 +23,29 @@ pub fn decode_at(src: &[u8], at: usize) -> Option<Char>
         }
         Lead::Bad => None,
     }
+}
+
+// The end of the run at `at` of characters that `fits` allows, or `at` where there is none.
+pub fn run_end<F: Fn(u32) -> bool>(src: &[u8], at: usize, fits: F) -> usize
+    requires { F.IsAlwaysCallable fits }
+    ensures { (f : Class) → Decided f (F.post fits) → result ≡ run_end f src.now at }
+{
+    let mut end = at;
+    while let Some(&b) = src.get(end) {
+        // An ASCII character needs no decoding.
+        if b < 0x80 {
+            if !fits(u32::from(b)) {
+                return end;
+            }
+            end += 1;
+            continue;
+        }
+        match decode_at(src, end) {
+            Some(c) if fits(c.value) => end += c.len,
+            _ => return end,
+        }
+    }
+    end
 }
 
 // What a first byte asks for: Table 3-7 of the Unicode Standard, row by row.

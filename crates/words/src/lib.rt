@@ -6,45 +6,26 @@ mod keywords;
 ghost use Rattle.std.specs.Prelude.{◌+◌, ◌≡◌, drop};
 ghost use Rattle.patterns.specs.Pattern.{longest};
 ghost use Rattle.tokens.specs.Unicode.{in_runs, digits_16};
-ghost use Rattle.tokens.specs.Tokens.{tail};
-ghost use Rattle.words.specs.Tail.{word_byte};
+ghost use Rattle.tokens.specs.Tokens.{tail, word_part};
 
 pub use keywords::keyword;
-use utf8::decode_at;
 
 // The end of the word tail at `at`: any run of ASCII letters, `_` and decimal digits.
 pub fn word_tail(src: &[u8], at: usize) -> usize
     ensures { result ≡ at + longest (tail digits_16) (drop at src.now) }
 {
-    let mut i = at;
-    while i < src.len() {
-        let b = src[i];
-        if b < 0x80 {
-            if !is_word_byte(b) {
-                return i;
-            }
-            i += 1;
-            continue;
-        }
-        let Some(c) = decode_at(src, i) else {
-            return i;
-        };
-        if !is_digit(c.value) {
-            return i;
-        }
-        i += c.len;
-    }
-    i
+    utf8::run_end(src, at, is_part)
 }
 
-// Whether an ASCII byte may stand in a word.
-fn is_word_byte(b: u8) -> bool
-    ensures { result ≡ word_byte b }
+// Whether `v` may stand in a word: in ASCII a letter, a digit or `_`, beyond it a decimal digit.
+fn is_part(v: u32) -> bool
+    ensures { result ≡ word_part digits_16 v }
 {
-    ((b'A' <= b) & (b <= b'Z'))
-        | ((b'a' <= b) & (b <= b'z'))
-        | (b == b'_')
-        | ((b'0' <= b) & (b <= b'9'))
+    if v < 0x80 {
+        let b = v as u8;
+        return b.is_ascii_alphanumeric() | (b == b'_');
+    }
+    is_digit(v)
 }
 
 // The first of each run of ten decimal digits: General_Category Nd, Unicode 16.0.

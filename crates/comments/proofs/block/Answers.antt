@@ -32,7 +32,7 @@ unfolding inside
 loop-i-init c = text_yes (text_then _ (ascii "/*")) (start _ _ _) (sym c.has.ensures ∙ c.if-not-has.false)
 
 pub overflow_add-i-in-Some : goal.overflow_add-i-in-Some
-overflow_add-i-in-Some c = omega (arith, char_within _ _ c.loop-i-test.true (sym c.decode_at.ensures ∙ c.in-Some.is))
+overflow_add-i-in-Some c = omega (arith, char_within c.args.src.now c.loop-i.i (sym c.decode_at.ensures ∙ c.in-Some.is))
 
 pub returns-in-None : goal.returns-in-None
 returns-in-None c =
@@ -40,7 +40,7 @@ returns-in-None c =
     (sym c.decode_at.ensures ∙ c.in-None.is)
 
 pub loop-i-smaller-then-b-ge128 : goal.loop-i-smaller-then-b-ge128
-loop-i-smaller-then-b-ge128 c = omega (arith, char_within _ _ c.loop-i-test.true (sym c.decode_at.ensures ∙ c.in-Some.is))
+loop-i-smaller-then-b-ge128 c = omega (arith, char_within c.args.src.now c.loop-i.i (sym c.decode_at.ensures ∙ c.in-Some.is))
 
 pub loop-i-preserved-then-b-ge128 : goal.loop-i-preserved-then-b-ge128
 loop-i-preserved-then-b-ge128 c =

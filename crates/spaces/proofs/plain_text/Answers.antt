@@ -1,27 +1,8 @@
-use Rattle.std.proofs.Common.{refl, sym, ap, ◌∙◌, not, arith}
-use Rattle.utf8.specs.Runs.{run_in, run_out, run_broken, run_over, char_within}
+-- The text is a run of characters that are no White_Space.
+-- Assumes nothing.
+use Rattle.std.proofs.Common.{not, rules}
+use Rattle.tokens.specs.Unicode.{white}
 use Rattle.spaces.proofs.plain_text.Goals as goal
 
-pub loop-i-init : goal.loop-i-init
-loop-i-init c = refl
-
-pub char_at-requires : goal.char_at-requires
-char_at-requires c = omega arith
-
-pub returns-in_default : goal.returns-in_default
-returns-in_default c = run_broken _ _ _ (sym c.char_at.ensures ∙ c.in_default.is) ∙ c.loop-i.invariant
-
-pub returns-then-is_white : goal.returns-then-is_white
-returns-then-is_white c = run_out _ _ _ ((sym c.char_at.ensures ∙ c.in-Some.is)) (ap not (sym c.is_white.ensures ∙ c.if-is_white.true)) ∙ c.loop-i.invariant
-
-pub overflow_add-i : goal.overflow_add-i
-overflow_add-i c = omega (arith, char_within _ _ c.loop-i-test.true ((sym c.char_at.ensures ∙ c.in-Some.is)))
-
-pub loop-i-smaller : goal.loop-i-smaller
-loop-i-smaller c = omega (arith, char_within _ _ c.loop-i-test.true ((sym c.char_at.ensures ∙ c.in-Some.is)))
-
-pub loop-i-preserved : goal.loop-i-preserved
-loop-i-preserved c = run_in _ _ _ ((sym c.char_at.ensures ∙ c.in-Some.is)) (ap not (sym c.is_white.ensures ∙ c.if-is_white.false)) ∙ c.loop-i.invariant
-
 pub returns : goal.returns
-returns c = run_over _ _ _ c.loop-i-test.false ∙ c.loop-i.invariant
+returns c = c.run_end.ensures (λ v. not (white v)) (λ v r s e. search rules)
