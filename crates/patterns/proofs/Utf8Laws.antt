@@ -41,6 +41,10 @@ unfolding finish
 finishes low high zero bits v s p = let (_, _, l, h) = p in simp le-leb (ap (λ (w : ℕ). whole w 1) (omega arith))
 finishes low high (suc k) bits v s p = let (_, _, l, h) = p in simp le-leb (ap longer (finishes 0x80 0xBF k _ v s (omega arith)))
 
+-- what is broken is no character
+pub never : {A : Type 0} {v n : ℕ} → None ≡ whole v n → A
+never e = absurd (none-some _ e)
+
 -- one character has one value and one length
 pub parts : {v n w m : ℕ} → whole v n ≡ whole w m → (v ≡ w) × (n ≡ m)
 parts e = let same = same_Some _ _ e in (ap (λ (c : Char). c.value) same, ap (λ (c : Char). c.len) same)
@@ -48,18 +52,18 @@ parts e = let same = same_Some _ _ e in (ap (λ (c : Char). c.value) same, ap (�
 -- what a test lets through is in its range
 passed : (low high b : ℕ) {v n : ℕ} {f : Option Char} → cond (between low high b) f None ≡ whole v n → (low ≤ b) × (b ≤ high) × (f ≡ whole v n)
 passed low high b e =
-    by_test (between low high b) (λ t. (search (leb-true, and_first), search (leb-true, and_second), rw t at e)) (λ t. absurd (none-some _ (rw t at e)))
+    by_test (between low high b) (λ t. (search (leb-true, and_first), search (leb-true, and_second), rw t at e)) (λ t. never (rw t at e))
 
 -- a character with a byte before it was one of a byte less
 pub shorter : (f : Option Char) {v n : ℕ} → longer f ≡ whole v n → (m : ℕ) × (f ≡ whole v m) × (n ≡ suc m)
 shorter (Some c) e = let p = parts e in (c.len, ap (λ (w : ℕ). whole w c.len) p.0, sym p.1)
-shorter None e = absurd (none-some _ e)
+shorter None e = never e
 
 -- and are written as they are read
 finished : (low high k bits : ℕ) (s : List ℕ) (v n : ℕ) → 0x80 ≤ low → high ≤ 0xBF → finish low high k bits s ≡ whole v n
     → Allows (More low high k bits) k (shift k v) × (take n s ≡ trails k v) × (n ≡ length (trails k v))
 unfolding finish
-finished low high k bits [] v n h i e = absurd (none-some _ e)
+finished low high k bits [] v n h i e = never e
 finished low high zero bits (b ∷ bs) v n h i e =
     let p = passed low high b e in
     let (value, size) = parts p.2 in
@@ -107,7 +111,7 @@ read_back v s h =
 -- whatever decodes is the encoding of a scalar value
 pub decoded : (s : List ℕ) (v n : ℕ) → decode s ≡ whole v n → Encoded s v n
 unfolding decode
-decoded [] v n e = absurd (none-some _ e)
+decoded [] v n e = never e
 decoded (b ∷ bs) v n e = go (lead b) (table b).sound e
   where
     go : (l : Lead) → Sound b l → after_lead b l bs ≡ whole v n → Encoded (b ∷ bs) v n
@@ -119,10 +123,10 @@ decoded (b ∷ bs) v n e = go (lead b) (table b).sound e
         let r = finished low high k bits bs v f.0 h.0 h.1 f.1 in
         let w = written k b v (h.2 (shift k v) r.0) in
         record { scalar = w.0; bytes = rw (f.2, w.1) (ap (b ∷◌) r.1); size = rw w.1 (f.2 ∙ ap suc r.2) }
-    go Bad h e = absurd (none-some _ e)
+    go Bad h e = never e
 
 -- so it is at least one byte, and no more than there are
 pub decoded_size : (s : List ℕ) (v n : ℕ) → decode s ≡ whole v n → (1 ≤ n) × (n ≤ length s)
 unfolding decode
-decoded_size s v zero e = let d = decoded s v zero e in absurd (none-some _ (rw (← d.bytes) at (read_back v [] d.scalar)))
+decoded_size s v zero e = let d = decoded s v zero e in never (rw (← d.bytes) at (read_back v [] d.scalar))
 decoded_size s v (suc n) e = let d = decoded s v (suc n) e in omega (arith, ap length d.bytes, length-take (suc n) s)

@@ -66,8 +66,8 @@ lead_bounded {b} {low} {high} {k} {bits} h e =
     }
 
 -- one byte more in front
-pub one_longer : (c : Char) → whole c.value (c.len + 1) ≡ longer (Some c)
-one_longer c = rw add-one
+pub one_longer : {f : Option Char} {v n : ℕ} → f ≡ whole v n → whole v (n + 1) ≡ longer f
+one_longer e = rw (e, add-one)
 
 -- what `map` makes of a character, or of none
 pub mapped : (o r : Option Char) → MatchOption o (r ≡ None) (λ x. IsSomeAnd r (λ y. Some y ≡ longer (Some x))) → r ≡ longer o
