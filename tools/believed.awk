@@ -350,13 +350,16 @@ function say_item(it,    i) {
     if (kind[it] ~ /^(definition|plain)$/ && !(it in is_theorem)) for (i = 2; i <= chunks[it]; i++) say_clause(it, chunk[it, i])
 }
 
-# A contract, with the parameters of its function bound: it belongs to its crate.
+# A contract, with the parameters of its function bound, and its type parameter, one letter: it belongs to its crate.
 function say_contract(i,    crate, parts, n, k, w) {
     crate = contract_file[i]
     sub(/[/].*/, "", crate)
     add_root(crate)
     leave(-1)
-    sub(/^[^(]*[(]/, "", contract_signature[i])
+    if (match(contract_signature[i], /fn [a-z0-9_]+</)) {
+        bind(substr(contract_signature[i], RSTART + RLENGTH, 1), 0)
+        sub(/^.*>[(]/, "", contract_signature[i])
+    } else sub(/^[^(]*[(]/, "", contract_signature[i])
     n = split(contract_signature[i], parts, ",")
     for (k = 1; k <= n; k++) {
         sub(/^ *(&('[a-z]+ )?)?(mut )?/, "", parts[k])
