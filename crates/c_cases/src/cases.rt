@@ -1,53 +1,43 @@
 // A line taken apart into what it asks for, its script and its source.
 use crate::calls;
+use std::alloc::{AllocError, Global};
 use std::io;
 
-// Writes the script of a line, and says how many numbers it has.
-fn put(line: &[u8], script: &mut [u32]) -> usize {
-    let mut len = 0;
-    let mut at = lines::next_byte(line, 0, b';');
-    while len < script.len() {
-        at = lines::next_byte(line, at, b' ');
-        if at >= line.len() {
-            return len;
-        }
-        let asked = lines::ask(&line[at..]);
-        script[len] = lines::narrow(asked.first);
-        len += 1;
-        at += 1;
-    }
-    len
+// The most numbers that a script has; those behind are no part of it.
+const MOST_NUMBERS: usize = 128;
+
+// What stands before the first such byte, and what stands behind it; nothing where there is none.
+fn parted(text: &[u8], byte: u8) -> Option<(&[u8], &[u8])> {
+    let (before, behind) = text.split_at_checked(lines::next_byte(text, 0, byte))?;
+    Some((before, behind.get(1..)?))
 }
 
-// The case of a line, up to its source.
-fn with_source(rt: &impl Print, line: &[u8], src: &[u8]) -> io::Result<()> {
-    let mut script = [0; 128];
-    let len = put(line, &mut script);
-    if len <= 128 {
-        calls::make(rt, lines::ask(line), src, &script[0..len])?;
-    }
-    Ok(())
+// The script of a line: behind `;`, the number behind each space, 0 where none stands there.
+fn script(alloc: Global, line: &[u8]) -> Result<Vec<u32>, AllocError> {
+    let Some((_, behind)) = parted(line, b';') else {
+        return Ok(Vec::new(alloc));
+    };
+    behind
+        .iter()
+        .enumerate()
+        .filter(|(_, byte)| **byte == b' ')
+        .take(MOST_NUMBERS)
+        .map(|(at, _)| lines::narrow(lines::number_behind(behind, at).map_or(
+            0,
+            |number| number.value,
+        )))
+        .collect(alloc)
 }
 
-// The same with a long source.
-fn with_far(rt: &impl Print, line: &[u8], far: &[u8]) -> io::Result<()> {
-    let plus = lines::next_byte(line, 0, b'+');
-    if plus < line.len() {
-        with_source(rt, line, far)?;
-    } else if far.len() > 0 {
-        with_source(rt, line, &far[1..])?;
-    }
-    Ok(())
-}
-
-// Says a line, and runs its case.
-pub(crate) fn run(rt: &impl Print, line: &[u8], far: &[u8]) -> io::Result<()> {
+// Says a line, and runs its case: on the source behind `|`, or on a long one.
+pub(crate) fn run(rt: &(impl Print + AllocGlobal), line: &[u8], far: &[u8]) -> io::Result<()> {
     rt.write_all(line)?;
-    let bar = lines::next_byte(line, 0, b'|');
-    if bar < line.len() {
-        with_source(rt, &line[0..bar], &line[bar + 1..])?;
-    } else {
-        with_far(rt, line, far)?;
-    }
+    let (case, src) = match parted(line, b'|') {
+        Some(parts) => parts,
+        None if line.contains(&b'+') => (line, far),
+        None => (line, far.get(1..).unwrap_or(far)),
+    };
+    let script = script(rt.alloc(), case)?;
+    calls::make(rt, lines::ask(case), src, &script)?;
     println!(rt)
 }

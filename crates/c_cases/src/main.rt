@@ -12,28 +12,19 @@ mod calls;
 mod cases;
 mod say;
 
+use lines::Lines;
 use std::io;
 use std::io::Read;
 
 // A source of one byte more than the most, which would be one token.
-fn spaces() -> [u8; 65536] {
-    [b' '; 65536]
-}
+const SPACES: [u8; 65536] = [b' '; 65536];
 
-// Says each line of the text, and runs its case.
-fn run(rt: &impl Print, text: &[u8], far: &[u8]) -> io::Result<()> {
-    let mut at = 0;
-    while at < text.len() {
-        let end = lines::next_byte(text, at, b'\n');
-        cases::run(rt, &text[at..end], far)?;
-        at = end + 1;
-    }
-    Ok(())
-}
-
-// Of the cases at most 10,000 bytes are read.
+// Says each line, and runs its case. Of the cases at most 10,000 bytes are read.
 fn main(rt: HostRuntime) -> io::Result<()> {
     let mut text = Vec::new(rt.alloc());
     rt.reader().take(10000).read_to_end(&mut text)?;
-    run(&rt, &text, &spaces())
+    for line in Lines(&text) {
+        cases::run(&rt, line, &SPACES)?;
+    }
+    Ok(())
 }

@@ -1,34 +1,46 @@
 // Sources of the greatest length, and of one byte more.
 use crate::modes::reader_at;
 use crate::say;
-use reader::{Opened, Reader};
+use reader::Reader;
 use std::io;
 use tokens::Mode;
 
-// A source of the greatest length, of one byte over and over.
-fn row(b: u8) -> [u8; 65535] {
-    [b; 65535]
-}
+// Spaces, one more than a source can have.
+pub(crate) const OVER_LONG: [u8; 65536] = [b' '; 65536];
 
-// The same with one byte more.
-pub(crate) fn long_row(b: u8) -> [u8; 65536] {
-    [b; 65536]
-}
+// Classes of bytes, each with one of its bytes: the longest tokens of one class, and the most tokens.
+const ROWS: [(&str, u8); 7] = [
+    ("letters", b'a'),
+    ("digits", b'7'),
+    ("spaces", b' '),
+    ("semicolons", b';'),
+    ("less-than signs", b'<'),
+    ("quotes", b'"'),
+    ("bytes FF", 255),
+];
+
+// Texts, each with its first two and its last two bytes: the longest tokens that begin and end with other bytes.
+const TEXTS: [(&str, [u8; 4]); 4] = [
+    ("string", [b'"', b'x', b'x', b'"']),
+    ("regexp", [b'/', b'x', b'x', b'/']),
+    ("block comment", [b'/', b'*', b'*', b'/']),
+    ("line comment", [b'/', b'/', b'x', b'x']),
+];
 
 // What opening answers.
 fn opening(rt: &impl Print, src: &[u8]) -> io::Result<()> {
     print!(rt; "{} bytes: ", src.len())?;
     match Reader::open(src) {
-        Opened::Ready(reader) => say::position(rt, reader)?,
-        Opened::Refused(r) => say::refusal(rt, r)?,
+        Ok(reader) => say::position(rt, reader)?,
+        Err(refusal) => say::refusal(rt, refusal)?,
     }
     println!(rt)
 }
 
 // Both sides of the limit.
 pub(crate) fn openings(rt: &impl Print) -> io::Result<()> {
-    opening(rt, &row(b' '))?;
-    opening(rt, &long_row(b' '))
+    opening(rt, &OVER_LONG[..65535])?;
+    opening(rt, &OVER_LONG)
 }
 
 // How a source with a name is read in normal mode.
@@ -38,42 +50,22 @@ fn report(rt: &impl Print, name: &str, src: &[u8]) -> io::Result<()> {
 }
 
 // One byte over and over.
-fn report_row(rt: &impl Print, name: &str, b: u8) -> io::Result<()> {
-    report(rt, name, &row(b))
+pub(crate) fn rows(rt: &impl Print) -> io::Result<()> {
+    for (name, byte) in ROWS {
+        report(rt, name, &[byte; 65535])?;
+    }
+    Ok(())
 }
 
 // A row of x, with other bytes at both ends.
-fn report_text(
-    rt: &impl Print,
-    name: &str,
-    first: u8,
-    second: u8,
-    last_but_one: u8,
-    last: u8,
-) -> io::Result<()> {
-    let mut src = row(b'x');
-    src[0] = first;
-    src[1] = second;
-    src[65533] = last_but_one;
-    src[65534] = last;
-    report(rt, name, &src)
-}
-
-// The longest tokens of one class of bytes, and the most tokens.
-pub(crate) fn rows(rt: &impl Print) -> io::Result<()> {
-    report_row(rt, "letters", b'a')?;
-    report_row(rt, "digits", b'7')?;
-    report_row(rt, "spaces", b' ')?;
-    report_row(rt, "semicolons", b';')?;
-    report_row(rt, "less-than signs", b'<')?;
-    report_row(rt, "quotes", b'"')?;
-    report_row(rt, "bytes FF", 255)
-}
-
-// The longest tokens that begin and end with other bytes.
 pub(crate) fn texts(rt: &impl Print) -> io::Result<()> {
-    report_text(rt, "string", b'"', b'x', b'x', b'"')?;
-    report_text(rt, "regexp", b'/', b'x', b'x', b'/')?;
-    report_text(rt, "block comment", b'/', b'*', b'*', b'/')?;
-    report_text(rt, "line comment", b'/', b'/', b'x', b'x')
+    for (name, [first, second, last_but_one, last]) in TEXTS {
+        let mut src = [b'x'; 65535];
+        src[0] = first;
+        src[1] = second;
+        src[65533] = last_but_one;
+        src[65534] = last;
+        report(rt, name, &src)?;
+    }
+    Ok(())
 }

@@ -12,16 +12,20 @@ mod sources;
 use std::io;
 use tokens::Mode;
 
+// The scanner's modes.
+const MODES: [Mode; 3] = [Mode::Normal, Mode::HexPattern, Mode::HexJump];
+
 fn main(rt: HostRuntime) -> io::Result<()> {
     modes::marked(&rt)?;
-    modes::in_mode(&rt, Mode::Normal)?;
-    modes::in_mode(&rt, Mode::HexPattern)?;
-    modes::in_mode(&rt, Mode::HexJump)?;
+    for mode in MODES {
+        modes::in_mode(&rt, mode)?;
+    }
     lengths::openings(&rt)?;
     lengths::rows(&rt)?;
     lengths::texts(&rt)?;
     cut_off::characters(&rt)?;
-    sources::in_mode(&rt, Mode::Normal)?;
-    sources::in_mode(&rt, Mode::HexPattern)?;
-    sources::in_mode(&rt, Mode::HexJump)
+    for mode in MODES {
+        sources::in_mode(&rt, mode)?;
+    }
+    Ok(())
 }

@@ -1,117 +1,94 @@
-// What a line asks of the stream: a call, made by its numbers, or another thing to do with it. What is answered is said, and the stream
-// after it handed on.
-use crate::{same, say};
-use event_scripts::{Asked, ToldGiven};
-use events::{EventAnswer, Stream};
+// A call of the stream that a line asks for: made, its answer said, and the stream after it taken over.
+use crate::bench::Bench;
+use crate::say;
+use crate::say::Say;
+use event_record::{Position, Span};
+use events::{Given, Stream};
+use lines::Asked;
 use std::io;
+use tokens::Offset;
 
-// The number of the call that a word names: by its first letter and, where two words share that, by its length.
-fn number(letter: u8, width: usize) -> u32 {
-    match letter {
-        b't' => { if width == 5 { 0 } else { 6 } }
-        b'b' => { if width == 5 { 2 } else { 5 } }
-        b'e' => in_e(width),
-        b'r' => 7,
-        _ => 8,
+// The calls.
+#[derive(Clone, Copy)]
+pub(crate) enum Call {
+    Token,
+    Error,
+    Begin,
+    End,
+    EndWithError,
+    Bookmark,
+    Truncate,
+    Remove,
+    Pop,
+}
+
+impl Call {
+    // The call that a word names: by its first letter and, where two words share that, by its length.
+    pub(crate) fn named(letter: u8, width: usize) -> Call {
+        match (letter, width) {
+            (b't', 5) => Call::Token,
+            (b't', _) => Call::Truncate,
+            (b'b', 5) => Call::Begin,
+            (b'b', _) => Call::Bookmark,
+            (b'e', 3) => Call::End,
+            (b'e', 5) => Call::Error,
+            (b'e', _) => Call::EndWithError,
+            (b'r', _) => Call::Remove,
+            _ => Call::Pop,
+        }
     }
 }
 
-// The calls whose word starts with e.
-fn in_e(width: usize) -> u32 {
-    match width {
-        3 => 3,
-        5 => 1,
-        _ => 4,
+// The span that a line has behind its first number.
+fn span(asked: Asked) -> Span {
+    Span {
+        start: Offset(lines::narrow(asked.second)),
+        end: Offset(lines::narrow(asked.third)),
     }
 }
 
-// The call that a line asks for. A number that does not fit is the greatest that does.
-fn named(line: lines::Asked, width: usize) -> Asked {
-    Asked {
-        op: number(line.letter, width),
-        arg: lines::narrow(line.first),
-        start: lines::narrow(line.second),
-        end: lines::narrow(line.third),
-    }
-}
-
-// Says what a call answered, and where the stream that a refused one gave back is not the one handed in.
-fn said(rt: &impl Print, before: Stream, given: ToldGiven) -> io::Result<Stream> {
-    let after = given.stream;
-    say::told(rt, given.told)?;
-    if given.told.tag == 5 {
-        same::remark(rt, before, after)?;
-    }
-    Ok(after)
-}
-
-// Makes a call.
-fn call(
-    rt: &impl Print,
-    s: Stream,
-    asked: Asked,
-    room: &mut [u32],
-    opens: &mut [usize],
-) -> io::Result<Stream> {
-    said(rt, s, event_scripts::call(s, room, opens, asked))
-}
-
-// Opens a stream.
-fn open(rt: &impl Print, room: &[u32], opens: &[usize]) -> io::Result<Stream> {
-    print!(rt; "open")?;
-    Ok(Stream::open(room, opens))
-}
-
-// Pops until there is none: at most once for each slot of four numbers, and once more.
-fn drain(rt: &impl Print, s: Stream, room: &[u32], opens: &[usize]) -> io::Result<Stream> {
-    let most = room.len() / 4 + 1;
-    let mut left = s;
-    let mut turns: usize = 0;
-    while turns < most {
-        let given = left.pop(room, opens);
-        let answer = given.answer;
-        left = given.stream;
-        match answer {
-            EventAnswer::Event(e) => say::next_event(rt, turns, e)?,
-            EventAnswer::None => return Ok(left),
-            EventAnswer::Refused(r) => {
-                say::refusal(rt, r)?;
-                return Ok(left);
+// Says what a call answered, and where the stream that a refused one gave back is not the one handed in; gives the stream after it.
+fn said<T: Say>(rt: &impl Print, before: Stream, given: Given<T>) -> io::Result<Stream> {
+    match given.answer {
+        Ok(value) => value.say(rt)?,
+        Err(refusal) => {
+            say::refused(rt, refusal)?;
+            if given.after != before {
+                print!(rt; ", stream changed")?;
             }
         }
-        turns += 1;
     }
-    Ok(left)
+    Ok(given.after)
 }
 
-// What else a line can name.
-fn other(
-    rt: &impl Print,
-    s: Stream,
-    letter: u8,
-    room: &[u32],
-    opens: &[usize],
-) -> io::Result<Stream> {
-    match letter {
-        b'o' => open(rt, room, opens),
-        b'd' => drain(rt, s, room, opens),
-        _ => say::view(rt, s, room, opens),
-    }
-}
-
-// Does what a line names.
-pub(crate) fn make(
-    rt: &impl Print,
-    s: Stream,
-    line: lines::Asked,
-    width: usize,
-    room: &mut [u32],
-    opens: &mut [usize],
-) -> io::Result<Stream> {
-    let letter = line.letter;
-    if (letter == b'o') | (letter == b'd') | (letter == b'v') {
-        other(rt, s, letter, &*room, &*opens)
-    } else {
-        call(rt, s, named(line, width), room, opens)
+impl Bench {
+    // Makes a call. A number that does not fit is the greatest that does; of a kind or message the low 16 bits count.
+    pub(crate) fn make(&mut self, rt: &impl Print, call: Call, asked: Asked) -> io::Result<()> {
+        let stream = self.stream;
+        let room = &mut self.room;
+        let opens = &mut self.opens;
+        let number = lines::narrow(asked.first);
+        let kind = (number % 65536) as u16;
+        let mark = Position(number as usize);
+        self.stream = match call {
+            Call::Token => said(
+                rt,
+                stream,
+                stream.push_token(room, opens, kind, span(asked)),
+            ),
+            Call::Error => said(
+                rt,
+                stream,
+                stream.push_error(room, opens, kind, span(asked)),
+            ),
+            Call::Begin => said(rt, stream, stream.begin(room, opens, kind)),
+            Call::End => said(rt, stream, stream.end(room, opens)),
+            Call::EndWithError => said(rt, stream, stream.end_with_error(room, opens)),
+            Call::Bookmark => said(rt, stream, stream.bookmark(room, opens)),
+            Call::Truncate => said(rt, stream, stream.truncate(room, opens, mark)),
+            Call::Remove => said(rt, stream, stream.remove_bookmark(room, opens, mark)),
+            Call::Pop => said(rt, stream, stream.pop(room, opens)),
+        }?;
+        Ok(())
     }
 }

@@ -12,37 +12,21 @@
 mod bench;
 mod calls;
 mod forge;
-mod same;
 mod say;
 
+use bench::Bench;
+use lines::Lines;
 use std::io;
 use std::io::Read;
 
-// What there is to lend.
-fn event_room() -> [u32; 4099] {
-    [7; 4099]
-}
-
-fn open_places() -> [usize; 256] {
-    [7; 256]
-}
-
-// Runs each line of the cases.
-fn run(rt: &impl Print, text: &[u8], room: &mut [u32], opens: &mut [usize]) -> io::Result<()> {
-    let mut on = bench::new();
-    let mut at = 0;
-    while at < text.len() {
-        let end = lines::next_byte(text, at, b'\n');
-        on = bench::step(rt, on, &text[at..end], room, opens)?;
-        println!(rt)?;
-        at = end + 1;
-    }
-    Ok(())
-}
-
-// Of the cases at most 600,000 bytes are read.
+// Runs each line of the cases, of which at most 600,000 bytes are read.
 fn main(rt: HostRuntime) -> io::Result<()> {
     let mut text = Vec::new(rt.alloc());
     rt.reader().take(600000).read_to_end(&mut text)?;
-    run(&rt, &text, &mut event_room(), &mut open_places())
+    let mut bench = Bench::new(rt.alloc());
+    for line in Lines(&text) {
+        bench.step(&rt, line)?;
+        println!(rt)?;
+    }
+    Ok(())
 }

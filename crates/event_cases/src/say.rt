@@ -1,53 +1,57 @@
 // What is said on standard output.
-use event_record::{Event, Span};
-use event_scripts::Told;
+use event_record::{Event, Position, Span};
 use events::Stream;
+use lines::Spaced;
 use refusals::Refusal;
 use std::io;
 
-// How much is lent.
-pub(crate) fn lent(rt: &impl Print, numbers: usize, places: usize) -> io::Result<()> {
-    print!(rt; "lent {numbers} {places}")
+// What a call gives that is done: it is said in words.
+pub(crate) trait Say: Copy {
+    fn say(self, rt: &impl Print) -> io::Result<()>;
+}
+
+impl Say for () {
+    fn say(self, rt: &impl Print) -> io::Result<()> {
+        print!(rt; "ok")
+    }
+}
+
+impl Say for Position {
+    fn say(self, rt: &impl Print) -> io::Result<()> {
+        print!(rt; "bookmark {}", self.0)
+    }
+}
+
+impl Say for Event {
+    // An event as its four numbers.
+    fn say(self, rt: &impl Print) -> io::Result<()> {
+        print!(rt;
+            "{} {} {} {}",
+            self.tag, self.kind, self.span.start.0, self.span.end.0
+        )
+    }
+}
+
+impl Say for Option<Event> {
+    fn say(self, rt: &impl Print) -> io::Result<()> {
+        match self {
+            Some(event) => event.say(rt),
+            None => print!(rt; "none"),
+        }
+    }
 }
 
 // A refusal by its number.
-fn refused(rt: &impl Print, n: usize) -> io::Result<()> {
-    print!(rt; "refused {n}")
-}
-
-pub(crate) fn refusal(rt: &impl Print, r: Refusal) -> io::Result<()> {
-    refused(rt, refusals::number(r) as usize)
-}
-
-// An event as its four numbers.
-fn event(rt: &impl Print, tag: usize, kind: usize, start: usize, end: usize) -> io::Result<()> {
-    print!(rt; "{tag} {kind} {start} {end}")
+pub(crate) fn refused(rt: &impl Print, refusal: Refusal) -> io::Result<()> {
+    print!(rt; "refused {refusal}")
 }
 
 // An event that so many were said before.
-pub(crate) fn next_event(rt: &impl Print, before: usize, e: Event) -> io::Result<()> {
-    if 0 < before {
+pub(crate) fn next_event(rt: &impl Print, before: usize, event: Event) -> io::Result<()> {
+    if before > 0 {
         print!(rt; " ; ")?;
     }
-    event(
-        rt,
-        e.tag as usize,
-        e.kind as usize,
-        e.span.start.0 as usize,
-        e.span.end.0 as usize,
-    )
-}
-
-// What a call answered, in words.
-pub(crate) fn told(rt: &impl Print, answer: Told) -> io::Result<()> {
-    let tag = answer.tag;
-    match tag {
-        0 => print!(rt; "none"),
-        1 => event(rt, answer.first, answer.second, answer.third, answer.fourth),
-        3 => print!(rt; "bookmark {}", answer.first),
-        4 => print!(rt; "ok"),
-        _ => refused(rt, answer.first),
-    }
+    event.say(rt)
 }
 
 // A span as document 01 writes it.
@@ -55,21 +59,12 @@ fn span(rt: &impl Print, name: &str, s: Span) -> io::Result<()> {
     print!(rt; " {name} {}..{}", s.start.0, s.end.0)
 }
 
-// The numbers of the stream's record.
-fn counts(
-    rt: &impl Print,
-    slots: usize,
-    places: usize,
-    front: usize,
-    count: usize,
-    opened: usize,
-) -> io::Result<()> {
-    print!(rt; "E {slots} D {places} front {front} count {count} opened {opened}")
-}
-
 // The stream's record.
 fn stream(rt: &impl Print, s: Stream) -> io::Result<()> {
-    counts(rt, s.slots, s.places, s.front.0, s.count, s.opened)?;
+    print!(rt;
+        "E {} D {} front {} count {} opened {}",
+        s.slots, s.places, s.front.0, s.count, s.opened
+    )?;
     print!(rt; " bookmarks {}", s.bookmarks)?;
     span(rt, "last", s.last)?;
     span(rt, "gone", s.gone)?;
@@ -79,37 +74,8 @@ fn stream(rt: &impl Print, s: Stream) -> io::Result<()> {
     Ok(())
 }
 
-// The numbers of the event slots.
-fn room(rt: &impl Print, numbers: &[u32]) -> io::Result<()> {
-    print!(rt; " room")?;
-    let mut i: usize = 0;
-    while i < numbers.len() {
-        print!(rt; " {}", numbers[i])?;
-        i += 1;
-    }
-    Ok(())
-}
-
-// The open places.
-fn opens(rt: &impl Print, places: &[usize]) -> io::Result<()> {
-    print!(rt; " opens")?;
-    let mut i: usize = 0;
-    while i < places.len() {
-        print!(rt; " {}", places[i])?;
-        i += 1;
-    }
-    Ok(())
-}
-
 // A stream and its rooms.
-pub(crate) fn view(
-    rt: &impl Print,
-    s: Stream,
-    numbers: &[u32],
-    places: &[usize],
-) -> io::Result<Stream> {
+pub(crate) fn view(rt: &impl Print, s: Stream, room: &[u32], opens: &[usize]) -> io::Result<()> {
     stream(rt, s)?;
-    room(rt, numbers)?;
-    opens(rt, places)?;
-    Ok(s)
+    print!(rt; " room{} opens{}", Spaced(room), Spaced(opens))
 }

@@ -1,32 +1,26 @@
 // The numbers of a record.
-ghost use Rattle.std.specs.Prelude.{◌≤◌, length};
+use std::alloc::{AllocError, Global};
 
-// Numbers that were read: how many, and the place behind them.
-#[derive(Clone, Copy)]
+// The most numbers that are read in one go: those of 1,024 answers, or of the tokens of every recorded source.
+const MOST_NUMBERS: usize = 4096;
+
+// Numbers that were read, and the place behind them.
+#[derive(Drop)]
 pub(crate) struct Numbers {
-    pub(crate) count: usize,
+    pub(crate) all: Vec<u32>,
     pub(crate) end: usize,
 }
 
-// Room for 4,096 numbers: those of 1,024 answers, or of the tokens of every recorded source.
-pub(crate) fn room() -> [u32; 4096] {
-    [0u32; 4096]
-}
-
-// Reads the numbers at the place, each behind a space, as many as there is room for.
-pub(crate) fn read(text: &[u8], from: usize, out: &mut [u32]) -> Numbers
-    ensures { result.count ≤ length out.old }
-{
-    let mut count = 0;
+// Reads the numbers at the place, each behind a space.
+pub(crate) fn numbers(alloc: Global, line: &[u8], from: usize) -> Result<Numbers, AllocError> {
+    let mut all = Vec::new(alloc);
     let mut end = from;
-    while count < out.len() {
-        let number = lines::number_behind(text, end);
-        if number.end == end {
-            return Numbers { count, end };
-        }
-        out[count] = lines::narrow(number.value);
-        count += 1;
+    for _ in 0..MOST_NUMBERS {
+        let Some(number) = lines::number_behind(line, end) else {
+            break;
+        };
+        all.push(lines::narrow(number.value))?;
         end = number.end;
     }
-    Numbers { count, end }
+    Ok(Numbers { all, end })
 }

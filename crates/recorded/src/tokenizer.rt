@@ -1,79 +1,59 @@
 // Records of the Rust's tokenizer, held to the scanner through a token source. The numbers of one are that of the mode and, for each
 // token, its kind and its end. It stops at the first INVALID_UTF8 or UNKNOWN, of which it has the kind and the start.
-use reader::{Opened, Reader, Scan};
-use tokens::{INVALID_UTF8, Token};
+use reader::Reader;
+use tokens::{INVALID_UTF8, Mode, Token};
 
-// What a record has of a token beside the kind: the end, or the start where it stops.
-fn place_of(token: Token) -> u32 {
-    if token.kind < INVALID_UTF8 {
-        token.end.0
+// Whether the tokenizer stops at a token.
+fn is_last(token: Token) -> bool {
+    token.kind >= INVALID_UTF8
+}
+
+// Whether a token that was found by the reader is the recorded one.
+fn is_recorded(token: Token, reader: Reader, kind: u32, place: u32) -> bool {
+    let ended = if is_last(token) {
+        token.start
     } else {
-        token.start.0
-    }
+        token.end
+    };
+    token.start == reader.place && token.kind == kind && ended.0 == place
 }
 
-// Whether a token that was found at the place is the recorded one.
-fn is_recorded(token: Token, place: u32, kind: u32, recorded: u32) -> bool {
-    (token.start.0 == place) & (token.kind == kind) & (place_of(token) == recorded)
-}
-
-// Whether the source answers the reader that no token is left.
-fn is_none_left(src: &[u8], reader: Reader) -> bool {
-    let place = reader.place;
-    let mode = reader.mode;
-    match source::next_at(src, place, mode) {
-        Scan::End => true,
-        Scan::Found(_, _) => false,
-        Scan::Refused(_) => false,
-    }
-}
-
-// Whether the source answers the reader with the recorded tokens, which stand behind the number of the mode, and then with none.
+// Whether the source answers the reader with the recorded tokens, and then with none.
 fn is_same(recorded: &[u32], src: &[u8], opened: Reader) -> bool {
     let mut reader = opened;
-    let mut at: usize = 1;
-    while at < recorded.len() {
-        let second = at + 1;
-        if second == recorded.len() {
-            return false;
-        }
-        let place = reader.place;
-        let mode = reader.mode;
-        let Scan::Found(token, next) = source::next_at(src, place, mode) else {
+    let mut left = recorded;
+    while let [kind, place, others @ ..] = left {
+        let Ok(Some((token, next))) = source::next_at(src, reader.place, reader.mode) else {
             return false;
         };
-        if !is_recorded(token, place.0, recorded[at], recorded[second]) {
+        if !is_recorded(token, reader, *kind, *place) {
             return false;
         }
-        reader = next;
-        at = second + 1;
-        if token.kind >= INVALID_UTF8 {
-            return at == recorded.len();
+        if is_last(token) {
+            return others.is_empty();
         }
+        reader = next;
+        left = others;
     }
-    is_none_left(src, reader)
+    left.is_empty() && source::next_at(src, reader.place, reader.mode) == Ok(None)
 }
 
 // The reader with the switch to the mode.
-fn in_mode(reader: Reader, mode: u32) -> Reader {
+fn in_mode(reader: Reader, mode: Mode) -> Reader {
     match mode {
-        0 => reader,
-        1 => reader.enter_hex_pattern_mode(),
-        _ => reader.enter_hex_jump_mode(),
+        Mode::Normal => reader,
+        Mode::HexPattern => reader.enter_hex_pattern_mode(),
+        Mode::HexJump => reader.enter_hex_jump_mode(),
     }
 }
 
 // Whether the numbers are a record, and the scanner answers on the source what it has.
 pub(crate) fn is_right(src: &[u8], recorded: &[u32]) -> bool {
-    if recorded.len() == 0 {
+    let Some((number, tokens)) = recorded.split_first() else {
         return false;
-    }
-    let mode = recorded[0];
-    if mode > 2 {
+    };
+    let (Ok(mode), Ok(reader)) = (Mode::try_from(*number), Reader::open(src)) else {
         return false;
-    }
-    match Reader::open(src) {
-        Opened::Ready(reader) => is_same(recorded, src, in_mode(reader, mode)),
-        Opened::Refused(_) => false,
-    }
+    };
+    is_same(tokens, src, in_mode(reader, mode))
 }

@@ -1,128 +1,60 @@
-// Each call of the window: made, its answer said, and the window after it handed on.
-use crate::lent::Lent;
-use crate::{forge, same, say};
+// Each call of the window: made, its answer said, and the window after it taken over.
+use crate::bench::Bench;
+use crate::say;
+use crate::say::Say;
 use lines::Asked;
-use refusals::DoneAnswer;
 use std::io;
-use window::Window;
+use tokens::TokenIndex;
+use window::{Given, Window};
 
-// The number of a call, by the line's first letter.
-fn number(letter: u8) -> u32 {
-    match letter {
-        b'n' => 0,
-        b'm' => 2,
-        b'b' => 3,
-        b'r' => 4,
-        b'd' => 5,
-        b'h' => 6,
-        b'j' => 7,
-        _ => 8,
-    }
-}
-
-// Opens a window.
+// Opens a window, and says the answer.
 fn open(rt: &impl Print, src: &[u8], room: &[u32]) -> io::Result<Window> {
     let given = Window::open(src, room);
-    let answer = given.answer;
-    match answer {
-        DoneAnswer::Done => print!(rt; "done")?,
-        DoneAnswer::Refused(r) => say::refused(rt, refusals::number(r))?,
+    given.answer.say(rt)?;
+    Ok(given.after)
+}
+
+// Says what a call answered, and where the window that it gave back is the one handed in.
+fn said<T: Say>(rt: &impl Print, before: Window, given: Given<T>) -> io::Result<Window> {
+    given.answer.say(rt)?;
+    if given.after == before {
+        print!(rt; ", same window")?;
     }
-    Ok(given.window)
+    Ok(given.after)
 }
 
-// The token n after the current one, for every n: a call by numbers has one of 32 bits.
-fn peek(rt: &impl Print, w: Window, src: &[u8], room: &mut [u32], n: usize) -> io::Result<Window> {
-    let given = w.peek_token(src, room, n);
-    let answer = given.answer;
-    say::token_answer(rt, answer)?;
-    same::remark(rt, w, given.window)
-}
-
-// Every other call.
-fn call(
+// Makes the call that a line asks for, by its first letter. Peek takes every n; an index has 32 bits, the greatest standing for all above.
+fn made(
     rt: &impl Print,
-    w: Window,
+    window: Window,
     asked: Asked,
     src: &[u8],
     room: &mut [u32],
 ) -> io::Result<Window> {
-    let n = lines::narrow(asked.first);
-    let given = window_scripts::call(w, src, room, number(asked.letter), n);
-    say::told(rt, given.told)?;
-    same::remark(rt, w, given.window)
-}
-
-// Makes the call that a line asks for, by its first letter.
-fn make(
-    rt: &impl Print,
-    w: Window,
-    asked: Asked,
-    src: &[u8],
-    room: &mut [u32],
-) -> io::Result<Window> {
-    let letter = asked.letter;
-    match letter {
+    let index = TokenIndex(lines::narrow(asked.first));
+    match asked.letter {
         b'o' => open(rt, src, room),
-        b'v' => say::view(rt, w, room),
-        b'p' => peek(rt, w, src, room, asked.first),
-        _ => call(rt, w, asked, src, room),
+        b'v' => say::view(rt, window, room),
+        b'n' => said(rt, window, window.next_token(src, room)),
+        b'p' => said(rt, window, window.peek_token(src, room, asked.first)),
+        b'm' => said(rt, window, window.has_more(src, room)),
+        b'b' => said(rt, window, window.bookmark(src, room)),
+        b'r' => said(rt, window, window.restore_bookmark(src, room, index)),
+        b'd' => said(rt, window, window.remove_bookmark(src, room, index)),
+        b'h' => said(rt, window, window.enter_hex_pattern_mode(src, room)),
+        b'j' => said(rt, window, window.enter_hex_jump_mode(src, room)),
+        _ => said(rt, window, window.current_token_index(src, room)),
     }
 }
 
-// The same with so many numbers of the room, where it has them.
-fn make_in(
-    rt: &impl Print,
-    w: Window,
-    asked: Asked,
-    src: &[u8],
-    room: &mut [u32],
-    numbers: usize,
-) -> io::Result<Window> {
-    if room.len() < numbers {
-        return Ok(w);
+impl<'t> Bench<'t> {
+    // Makes a call with what is lent, where there is so much to lend.
+    pub(crate) fn call(&mut self, rt: &impl Print, asked: Asked) -> io::Result<()> {
+        let (Some(src), Some(room)) = (self.src, self.room.get_mut(..self.numbers)) else {
+            return Ok(());
+        };
+        print!(rt; ": ")?;
+        self.window = made(rt, self.window, asked, src, room)?;
+        Ok(())
     }
-    print!(rt; ": ")?;
-    make(rt, w, asked, src, &mut room[0..numbers])
-}
-
-// The same with what is lent, where the text has the source.
-fn make_with(
-    rt: &impl Print,
-    w: Window,
-    asked: Asked,
-    lent: Lent,
-    text: &[u8],
-    room: &mut [u32],
-) -> io::Result<Window> {
-    let from = lent.from;
-    let to = lent.to;
-    if to < from || text.len() < to {
-        return Ok(w);
-    }
-    make_in(rt, w, asked, &text[from..to], room, lent.numbers)
-}
-
-// Whether a line with this first letter asks for a call.
-fn is_call(letter: u8) -> bool {
-    match letter {
-        b's' | b'f' | b'g' => false,
-        _ => b'a' <= letter,
-    }
-}
-
-// The window after a line, by its first letter: a field of it is set, or a call is made.
-pub(crate) fn after(
-    rt: &impl Print,
-    w: Window,
-    asked: Asked,
-    lent: Lent,
-    text: &[u8],
-    room: &mut [u32],
-) -> io::Result<Window> {
-    let letter = asked.letter;
-    if is_call(letter) {
-        return make_with(rt, w, asked, lent, text, room);
-    }
-    Ok(forge::set(w, asked))
 }

@@ -8,68 +8,35 @@
 // Fetched, Current, Place, Live, and Mark I N, the place I of the bookmarks. `#` is a title.
 #![tactic(auto)]
 
-ghost use Rattle.std.specs.Prelude.{◌≤◌, length};
-
+mod bench;
 mod calls;
 mod forge;
-mod lent;
-mod same;
 mod say;
 
-use lent::Lent;
+use bench::Bench;
+use lines::Lines;
 use std::io;
 use std::io::Read;
-use window::Window;
 
-// Room for 20,000 bytes of cases, and the bytes that no line has.
-fn bytes() -> [u8; 85541] {
-    let mut all = [b' '; 85541];
-    all[85536] = 255;
-    all[85537] = 65;
-    all[85538] = 227;
-    all[85539] = 128;
-    all[85540] = 128;
-    all
-}
+// How many bytes the cases and those that no line has are together.
+const ALL: usize = 85541;
 
-// A window with no source and no room.
-fn unopened() -> Window {
-    let given = Window::open(b"", &[]);
-    given.window
-}
+// The last of the bytes that no line has; spaces stand before them.
+const LAST: [u8; 5] = [255, 65, 227, 128, 128];
 
-// Runs each line of the cases, which are the first n bytes of the text. At first there is no source and no room.
-fn run(rt: &impl Print, text: &[u8], n: usize, room: &mut [u32]) -> io::Result<()>
-    requires { n ≤ length text.now }
-{
-    let mut window = unopened();
-    let mut lent = Lent {
-        from: 0,
-        to: 0,
-        numbers: 0,
-    };
-    let mut at = 0;
-    while at < n {
-        let end = lines::next_byte(text, at, b'\n');
-        let next = end + 1;
-        let line = &text[at..end];
+// Runs each line of the cases. Bytes are taken from the cases with those behind them that no line has.
+fn main(rt: HostRuntime) -> io::Result<()> {
+    let mut cases = Vec::new(rt.alloc());
+    rt.reader().take(ALL as u64).read_to_end(&mut cases)?;
+    let mut text = cases.clone()?;
+    for at in text.len()..ALL {
+        text.push(if at < ALL - 5 { b' ' } else { LAST[at - (ALL - 5)] })?;
+    }
+    let mut bench = Bench::new(&text);
+    for line in Lines(&cases) {
         rt.write_all(line)?;
-        let asked = lines::ask(line);
-        lent = lent::after(lent, asked, at, end, room);
-        window = calls::after(rt, window, asked, lent, text, room)?;
+        bench.step(&rt, line)?;
         println!(rt)?;
-        at = next;
     }
     Ok(())
-}
-
-// The cases stand before the bytes that no line has.
-fn main(rt: HostRuntime) -> io::Result<()> {
-    let all = bytes();
-    let mut text = Vec::new(rt.alloc());
-    let n = rt.reader().take(85541).read_to_end(&mut text)?;
-    if n < all.len() {
-        text.extend_from_slice(&all[n..])?;
-    }
-    run(&rt, &text, n, &mut [7; 18])
 }

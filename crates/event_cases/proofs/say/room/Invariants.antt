@@ -1,7 +1,0 @@
--- `say::room` is safe and ends: it reads at places of the room alone.
--- The measure is how many are left. Assumes nothing.
-use Rattle.std.proofs.Common.{◌-◌, length}
-use Rattle.event_cases.proofs.say.room.Given as goal
-
-abbrev pub decreases-loop-i : goal.decreases-loop-i
-decreases-loop-i g l = length l.numbers - l.i
