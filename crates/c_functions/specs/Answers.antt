@@ -1,9 +1,8 @@
 -- The words in which the C functions promise: what is lent to be filled, and how a number, 0 or that of a refusal, tells an answer.
 -- Assumes nothing.
-use Rattle.std.specs.Prelude.{ℕ, zero, suc, List}
+use Rattle.std.specs.Prelude.{ℕ, zero, suc, Result, Ok, Err, Unit, List}
+use Rattle.refusals.specs.declared.Refusal.{Refusal}
 use Rattle.refusals.specs.Refusals.{number_of}
-use Rattle.refusals.specs.declared.DoneAnswer.{DoneAnswer}
-use Rattle.refusals.specs.declared.DoneAnswer.TheVariants.{Done, Refused}
 
 -- what is lent: the numbers, and how many of them are in use
 pub record Lent : Type 0 where
@@ -19,6 +18,6 @@ told done refused zero = done
 told done refused (suc n) = refused (suc n)
 
 -- the number that tells an answer
-abbrev pub status_of : DoneAnswer → ℕ
-status_of Done = 0
-status_of (Refused x) = number_of x
+abbrev pub status_of : Result Unit Refusal → ℕ
+status_of (Ok u) = 0
+status_of (Err x) = number_of x

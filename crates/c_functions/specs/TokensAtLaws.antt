@@ -1,6 +1,6 @@
 -- The cases of rattle_tokens: where a test of the definition holds, it refuses; where none does, what fetching wrote is what is left.
 -- Each is one look at the tests. Assumes nothing.
-use Rattle.std.specs.Prelude.{ℕ, ◌+◌, ◌<◌, ◌≤◌, ◌≡◌, refl, Bool, cond, List, length, get_or, leb}
+use Rattle.std.specs.Prelude.{ℕ, ◌+◌, ◌<◌, ◌≤◌, ◌≡◌, refl, Bool, cond, zero, suc, Option, Some, None, Result, Ok, Err, ok_or, List, length, get_or, leb}
 use Rattle.std.proofs.Common.{sym, subst, arith}
 use Rattle.std.proofs.Math.Bool.{true, false}
 use Rattle.std.proofs.Math.Nat.{zero-add}
@@ -11,12 +11,16 @@ use Rattle.scripts.proofs.Tables.{no_entry}
 use Rattle.tokens.specs.NoneOf.{NoneOf}
 use Rattle.tokens.specs.declared.Mode.{Mode}
 use Rattle.tokens.specs.declared.Token.{Token}
+use Rattle.tokens.specs.declared.Mode.TheVariants.{Normal, HexPattern, HexJump}
+use Rattle.tokens.specs.declared.NotAMode.{NotAMode}
+use Rattle.tokens.specs.Modes.{mode_of}
 use Rattle.tokens.specs.Tokens.{tables_1}
 use Rattle.tokens.specs.Scan.{list_from}
 use Rattle.reader.specs.declared.Reader.{Reader}
 use Rattle.reader.specs.Reading.{source_limit, ahead}
 use Rattle.token_room.specs.Room.{slots_in, nth, write_all}
-use Rattle.fetching.specs.declared.Fetched.{Fetched}
+use Rattle.refusals.specs.declared.Refusal.{Refusal}
+use Rattle.fetching.specs.declared.Stored.{Stored}
 use Rattle.fetching.specs.Fetching.{Answer, upto, refused, fetched, fetched_told, outcome}
 use Rattle.c_functions.specs.Answers.{Lent, lent}
 use Rattle.c_functions.specs.TokensAt.{tokens_from, in_modes, tokens_at}
@@ -60,7 +64,7 @@ module _ (src : List ℕ) (place : ℕ) (mode : Mode) (out : List ℕ) (count : 
       unfolding fetched ahead list_from
       fetched_so = rw (le-leb (length src) source_limit limit, le-leb place (length src) inside, le-leb 0 place (omega arith))
 
-      pub from_fetched : (y : Fetched) {g : Fetched} {o : List ℕ} {w : ℕ} → g ≡ y → w ≡ slots_in (length out)
+      pub from_fetched : (y : Result Stored Refusal) {g : Result Stored Refusal} {o : List ℕ} {w : ℕ} → g ≡ y → w ≡ slots_in (length out)
           → outcome g o ≡ fetched src reader out (nth 0) (length src) w → Leaves (fetched_told y) o
       from_fetched y {g} {o} told slots e =
           let f : outcome y o ≡ fetched_if (leb (length all) (slots_in (length out))) = rw (← told, ← fetched_so, ← slots) e in
@@ -83,3 +87,27 @@ module _ (src : List ℕ) (place n : ℕ) (out : List ℕ) (count : ℕ) where
     pub at_none : NoneOf (below 3) n → tokens_at src place n out count ≡ none
     unfolding tokens_at
     at_none h = rw (le-ltb source_limit (length src) limit) (no_entry (in_modes src place out count) none n h)
+
+-- what the number's conversion answers says which mode it names, if any
+pub names : (o : Option Mode) {e : NotAMode} {r : Result Mode NotAMode} {m : Mode} → r ≡ ok_or o e → r ≡ Ok m → o ≡ Some m
+names (Some x) p q = cc
+names None p q = cc
+
+pub names_none : (o : Option Mode) {e x : NotAMode} {r : Result Mode NotAMode} → r ≡ ok_or o e → r ≡ Err x → o ≡ None
+names_none (Some m) p q = cc
+names_none None p q = refl
+
+-- The mode that a number names, and a number that names none.
+module _ (src : List ℕ) (place : ℕ) (out : List ℕ) (count : ℕ) (limit : length src ≤ source_limit) where
+  pub at_named : (n : ℕ) {m : Mode} → mode_of n ≡ Some m → tokens_from src place m out count ≡ tokens_at src place n out count
+  at_named zero {m} e = let k : m ≡ Normal = cc in rw k (sym (at_mode src place 0 out count limit 0 refl))
+  at_named (suc zero) {m} e = let k : m ≡ HexPattern = cc in rw k (sym (at_mode src place 1 out count limit 1 refl))
+  at_named (suc (suc zero)) {m} e = let k : m ≡ HexJump = cc in rw k (sym (at_mode src place 2 out count limit 2 refl))
+  at_named (suc (suc (suc n))) e = cc
+
+  pub at_unnamed : (n : ℕ) → mode_of n ≡ None → reply 24 (lent out count) ≡ tokens_at src place n out count
+  unfolding tokens_at
+  at_unnamed zero e = cc
+  at_unnamed (suc zero) e = cc
+  at_unnamed (suc (suc zero)) e = cc
+  at_unnamed (suc (suc (suc n))) e = rw (le-ltb source_limit (length src) limit) refl

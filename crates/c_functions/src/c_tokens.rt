@@ -5,7 +5,6 @@ ghost use Rattle.reader.specs.Reading.{source_limit};
 ghost use Rattle.c_functions.specs.Answers.{lent};
 ghost use Rattle.c_functions.specs.TokensAt.{tokens_from, tokens_at};
 
-use fetching::Fetched;
 use reader::Reader;
 use refusals::Refusal;
 use tokens::{Mode, Offset, TokenIndex};
@@ -17,13 +16,11 @@ pub fn rattle_tokens(src: &[u8], place: u32, mode: u32, out: &mut [u32], count: 
     ensures { reply result (lent out.new count.new) ≡ tokens_at src.now place mode out.old count.old }
 {
     if reader::SOURCE_LIMIT < src.len() {
-        return refusals::number(Refusal::SourceTooLong);
+        return u32::from(Refusal::SourceTooLong);
     }
-    match mode {
-        0 => in_mode(src, place, Mode::Normal, out, count),
-        1 => in_mode(src, place, Mode::HexPattern, out, count),
-        2 => in_mode(src, place, Mode::HexJump, out, count),
-        _ => refusals::number(Refusal::NotAsOpened),
+    match Mode::try_from(mode) {
+        Ok(mode) => in_mode(src, place, mode, out, count),
+        Err(_) => u32::from(Refusal::NotAsOpened),
     }
 }
 
@@ -33,7 +30,7 @@ fn in_mode(src: &[u8], place: u32, mode: Mode, out: &mut [u32], count: &mut u32)
     ensures { reply result (lent out.new count.new) ≡ tokens_from src.now place mode out.old count.old }
 {
     if src.len() < place as usize {
-        return refusals::number(Refusal::NotAsOpened);
+        return u32::from(Refusal::NotAsOpened);
     }
     let reader = Reader {
         place: Offset(place),
@@ -41,10 +38,10 @@ fn in_mode(src: &[u8], place: u32, mode: Mode, out: &mut [u32], count: &mut u32)
     };
     let slots = token_room::slots(out.len());
     match fetching::fetch(src, reader, out, TokenIndex(0), src.len(), slots) {
-        Fetched::Upto(_, next) => {
-            *count = next.0;
+        Ok(stored) => {
+            *count = stored.next.0;
             0
         }
-        Fetched::Refused(_) => refusals::number(Refusal::NoRoom),
+        Err(_) => u32::from(Refusal::NoRoom),
     }
 }

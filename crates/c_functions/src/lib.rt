@@ -13,14 +13,14 @@ pub use c_events::rattle_events;
 pub use c_listing::rattle_listing;
 pub use c_tokens::rattle_tokens;
 pub use c_window::rattle_window;
-use refusals::DoneAnswer;
+use refusals::Refusal;
 
 // The number of an answer: 0 where it is done, else that of the refusal.
-fn status(answer: DoneAnswer) -> u32
+fn status(answer: Result<(), Refusal>) -> u32
     ensures { result ≡ status_of answer }
 {
     match answer {
-        DoneAnswer::Done => 0,
-        DoneAnswer::Refused(refusal) => refusals::number(refusal),
+        Ok(()) => 0,
+        Err(refusal) => u32::from(refusal),
     }
 }
