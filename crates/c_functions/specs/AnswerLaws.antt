@@ -1,6 +1,6 @@
 -- The number of an answer tells that answer, in any layer's words for done and refused: no refusal has the number 0.
 -- Assumes nothing.
-use Rattle.std.specs.Prelude.{ℕ, zero, suc, Result, Ok, Err, Unit, ◌≤◌, ◌≡◌, refl}
+use Rattle.std.specs.Prelude.{ℕ, zero, suc, Result, Ok, Err, ◌≤◌, ◌≡◌, refl}
 use Rattle.std.proofs.Common.{arith}
 use Rattle.refusals.specs.declared.Refusal.{Refusal}
 use Rattle.refusals.specs.Refusals.{number_of}

@@ -1,6 +1,6 @@
 -- The words in which the C functions promise: what is lent to be filled, and how a number, 0 or that of a refusal, tells an answer.
 -- Assumes nothing.
-use Rattle.std.specs.Prelude.{ℕ, zero, suc, Result, Ok, Err, Unit, List}
+use Rattle.std.specs.Prelude.{ℕ, zero, suc, Result, Ok, Err, List}
 use Rattle.refusals.specs.declared.Refusal.{Refusal}
 use Rattle.refusals.specs.Refusals.{number_of}
 

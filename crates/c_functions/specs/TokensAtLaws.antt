@@ -89,13 +89,13 @@ module _ (src : List ℕ) (place n : ℕ) (out : List ℕ) (count : ℕ) where
     at_none h = rw (le-ltb source_limit (length src) limit) (no_entry (in_modes src place out count) none n h)
 
 -- what the number's conversion answers says which mode it names, if any
-pub names : (o : Option Mode) {e : NotAMode} {r : Result Mode NotAMode} {m : Mode} → r ≡ ok_or o e → r ≡ Ok m → o ≡ Some m
-names (Some x) p q = cc
-names None p q = cc
+pub names : (o : Option Mode) (e : NotAMode) {r : Result Mode NotAMode} {m : Mode} → r ≡ ok_or o e → r ≡ Ok m → o ≡ Some m
+names (Some x) e p q = cc
+names None e p q = cc
 
-pub names_none : (o : Option Mode) {e x : NotAMode} {r : Result Mode NotAMode} → r ≡ ok_or o e → r ≡ Err x → o ≡ None
-names_none (Some m) p q = cc
-names_none None p q = refl
+pub names_none : (o : Option Mode) (e : NotAMode) {x : NotAMode} {r : Result Mode NotAMode} → r ≡ ok_or o e → r ≡ Err x → o ≡ None
+names_none (Some m) e p q = cc
+names_none None e p q = refl
 
 -- The mode that a number names, and a number that names none.
 module _ (src : List ℕ) (place : ℕ) (out : List ℕ) (count : ℕ) (limit : length src ≤ source_limit) where

@@ -32,7 +32,7 @@ fn opening(rt: &impl Print, src: &[u8]) -> io::Result<()> {
     print!(rt; "{} bytes: ", src.len())?;
     match Reader::open(src) {
         Ok(reader) => say::position(rt, reader)?,
-        Err(refusal) => say::refusal(rt, refusal)?,
+        Err(refusal) => print!(rt; "refused {refusal}")?,
     }
     println!(rt)
 }

@@ -53,7 +53,7 @@ fn switches(rt: &impl Print, mode: Mode) -> io::Result<()> {
 // The byte at a place of a source, read by itself: its kind and the mode reached, where it is a token of its own.
 pub(crate) fn one_byte(src: &[u8], at: u32, mode: Mode) -> Option<(u32, Mode)> {
     let (token, next) = reader_at(at, mode).scan(src).ok()??;
-    let alone = token.start.0 == at
+    let alone = token.start == Offset(at)
         && u64::from(token.end.0) == u64::from(at) + 1
         && next.place == token.end;
     alone.then_some((token.kind, next.mode))

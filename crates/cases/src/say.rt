@@ -1,6 +1,5 @@
 // What the groups say on standard output.
 use reader::Reader;
-use refusals::Refusal;
 use std::io;
 use tokens::{Mode, Token};
 
@@ -35,11 +34,6 @@ pub(crate) fn position(rt: &impl Print, reader: Reader) -> io::Result<()> {
     print!(rt; "{} at {}", name(reader.mode), reader.place.0)
 }
 
-// A refusal by its number.
-pub(crate) fn refusal(rt: &impl Print, refusal: Refusal) -> io::Result<()> {
-    print!(rt; "refused {refusal}")
-}
-
 // A token as document 01 writes it.
 pub(crate) fn token(rt: &impl Print, token: Token) -> io::Result<()> {
     print!(rt; "{} {}..{}", token.kind, token.start.0, token.end.0)
@@ -53,7 +47,7 @@ fn ending(rt: &impl Print, src: &[u8], reader: Reader) -> io::Result<()> {
             print!(rt; "none, ")?;
             position(rt, reader)
         }
-        Err(r) => refusal(rt, r),
+        Err(refusal) => print!(rt; "refused {refusal}"),
     }
 }
 

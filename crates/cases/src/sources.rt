@@ -24,7 +24,7 @@ fn asked(rt: &impl Print, src: &[u8], place: u32, mode: Mode) -> io::Result<()> 
             say::position(rt, reader)
         }
         Ok(None) => print!(rt; "none"),
-        Err(refusal) => say::refusal(rt, refusal),
+        Err(refusal) => print!(rt; "refused {refusal}"),
     }
 }
 

@@ -49,7 +49,7 @@ impl Bench {
             match given.answer {
                 Ok(Some(event)) => say::next_event(rt, turn, event)?,
                 Ok(None) => return Ok(()),
-                Err(refusal) => return say::refused(rt, refusal),
+                Err(refusal) => return print!(rt; "refused {refusal}"),
             }
         }
         Ok(())

@@ -1,12 +1,11 @@
 // A call of the stream that a line asks for: made, its answer said, and the stream after it taken over.
 use crate::bench::Bench;
-use crate::say;
+use crate::forge::span;
 use crate::say::Say;
-use event_record::{Position, Span};
+use event_record::Position;
 use events::{Given, Stream};
 use lines::Asked;
 use std::io;
-use tokens::Offset;
 
 // The calls.
 #[derive(Clone, Copy)]
@@ -39,20 +38,12 @@ impl Call {
     }
 }
 
-// The span that a line has behind its first number.
-fn span(asked: Asked) -> Span {
-    Span {
-        start: Offset(lines::narrow(asked.second)),
-        end: Offset(lines::narrow(asked.third)),
-    }
-}
-
 // Says what a call answered, and where the stream that a refused one gave back is not the one handed in; gives the stream after it.
 fn said<T: Say>(rt: &impl Print, before: Stream, given: Given<T>) -> io::Result<Stream> {
     match given.answer {
         Ok(value) => value.say(rt)?,
         Err(refusal) => {
-            say::refused(rt, refusal)?;
+            print!(rt; "refused {refusal}")?;
             if given.after != before {
                 print!(rt; ", stream changed")?;
             }
@@ -70,17 +61,10 @@ impl Bench {
         let number = lines::narrow(asked.first);
         let kind = (number % 65536) as u16;
         let mark = Position(number as usize);
+        let span = span(asked.second, asked.third);
         self.stream = match call {
-            Call::Token => said(
-                rt,
-                stream,
-                stream.push_token(room, opens, kind, span(asked)),
-            ),
-            Call::Error => said(
-                rt,
-                stream,
-                stream.push_error(room, opens, kind, span(asked)),
-            ),
+            Call::Token => said(rt, stream, stream.push_token(room, opens, kind, span)),
+            Call::Error => said(rt, stream, stream.push_error(room, opens, kind, span)),
             Call::Begin => said(rt, stream, stream.begin(room, opens, kind)),
             Call::End => said(rt, stream, stream.end(room, opens)),
             Call::EndWithError => said(rt, stream, stream.end_with_error(room, opens)),

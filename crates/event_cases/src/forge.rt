@@ -5,11 +5,11 @@ use lines::Asked;
 use rooms::Slot;
 use tokens::Offset;
 
-// A span of two numbers.
-fn span(asked: Asked) -> Span {
+// A span of two numbers. One that does not fit is the greatest that does.
+pub(crate) fn span(start: usize, end: usize) -> Span {
     Span {
-        start: Offset(lines::narrow(asked.first)),
-        end: Offset(lines::narrow(asked.second)),
+        start: Offset(lines::narrow(start)),
+        end: Offset(lines::narrow(end)),
     }
 }
 
@@ -20,8 +20,8 @@ impl Bench {
         match asked.letter {
             b'R' => set_in(&mut self.room, n, lines::narrow(asked.second)),
             b'I' => set_in(&mut self.opens, n, asked.second),
-            b'L' => self.stream.last = span(asked),
-            b'G' => self.stream.gone = span(asked),
+            b'L' => self.stream.last = span(asked.first, asked.second),
+            b'G' => self.stream.gone = span(asked.first, asked.second),
             b'E' => self.stream.slots = n,
             b'D' => self.stream.places = n,
             b'F' => self.stream.front = Slot(n),

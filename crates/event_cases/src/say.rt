@@ -2,7 +2,6 @@
 use event_record::{Event, Position, Span};
 use events::Stream;
 use lines::Spaced;
-use refusals::Refusal;
 use std::io;
 
 // What a call gives that is done: it is said in words.
@@ -39,11 +38,6 @@ impl Say for Option<Event> {
             None => print!(rt; "none"),
         }
     }
-}
-
-// A refusal by its number.
-pub(crate) fn refused(rt: &impl Print, refusal: Refusal) -> io::Result<()> {
-    print!(rt; "refused {refusal}")
 }
 
 // An event that so many were said before.

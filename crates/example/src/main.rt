@@ -66,7 +66,8 @@ fn say_event(rt: &impl Print, event: Option<Event>) -> io::Result<()> {
 // Writes what was read and what was handed on; or why a call was refused, by its number.
 fn main(rt: HostRuntime) -> io::Result<()> {
     match read_twice(b"rule till { condition: true }") {
-        Ok([keyword, name, again]) => {
+        Ok(tokens) => {
+            let [keyword, name, again] = tokens;
             say_token(&rt, "next", keyword)?;
             say_token(&rt, "peek 1", name)?;
             say_token(&rt, "next", again)?;
@@ -79,10 +80,10 @@ fn main(rt: HostRuntime) -> io::Result<()> {
     };
     match hand_on(33, span) {
         Ok(events) => {
-            for event in events {
-                say_event(&rt, event)?;
-            }
-            Ok(())
+            let [begin, token, end] = events;
+            say_event(&rt, begin)?;
+            say_event(&rt, token)?;
+            say_event(&rt, end)
         }
         Err(refusal) => println!(rt; "refused {refusal}"),
     }

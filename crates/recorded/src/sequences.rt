@@ -8,7 +8,8 @@ use std::alloc::{AllocError, Global};
 // 4,096 slots are ample room.
 const AMPLE: usize = 4096;
 
-// How many answers are the recorded ones, before the first that is not; and whether all are, or that one is refusal 2.
+// How many answers are the recorded ones, before the first that is not; and whether all are, or that one is refusal 2. No Option: where
+// it is another, those before it are counted, too.
 #[derive(Clone, Copy)]
 struct InRoom {
     answers: usize,

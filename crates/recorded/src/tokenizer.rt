@@ -1,7 +1,7 @@
 // Records of the Rust's tokenizer, held to the scanner through a token source. The numbers of one are that of the mode and, for each
 // token, its kind and its end. It stops at the first INVALID_UTF8 or UNKNOWN, of which it has the kind and the start.
 use reader::Reader;
-use tokens::{INVALID_UTF8, Mode, Token};
+use tokens::{INVALID_UTF8, Mode, Offset, Token};
 
 // Whether the tokenizer stops at a token.
 fn is_last(token: Token) -> bool {
@@ -15,7 +15,7 @@ fn is_recorded(token: Token, reader: Reader, kind: u32, place: u32) -> bool {
     } else {
         token.end
     };
-    token.start == reader.place && token.kind == kind && ended.0 == place
+    token.start == reader.place && token.kind == kind && ended == Offset(place)
 }
 
 // Whether the source answers the reader with the recorded tokens, and then with none.

@@ -30,7 +30,11 @@ fn main(rt: HostRuntime) -> io::Result<()> {
     rt.reader().take(ALL as u64).read_to_end(&mut cases)?;
     let mut text = cases.clone()?;
     for at in text.len()..ALL {
-        text.push(if at < ALL - 5 { b' ' } else { LAST[at - (ALL - 5)] })?;
+        text.push(if at < ALL - 5 {
+            b' '
+        } else {
+            LAST[at - (ALL - 5)]
+        })?;
     }
     let mut bench = Bench::new(&text);
     for line in Lines(&cases) {

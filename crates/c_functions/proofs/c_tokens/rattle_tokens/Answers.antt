@@ -13,9 +13,9 @@ returns-then-src-gt-SOURCE_LIMIT c =
 pub returns-in-Ok : goal.returns-in-Ok
 returns-in-Ok c =
     let a = c.args in
-    c.in_mode.ensures ∙ at_named a.src.now a.place a.out.now a.count.now (omega arith) a.mode (names (mode_of a.mode) c.try_from.ensures c.in-Ok.is)
+    c.in_mode.ensures ∙ at_named a.src.now a.place a.out.now a.count.now (omega arith) a.mode (names (mode_of a.mode) (record { 0 = a.mode }) c.try_from.ensures c.in-Ok.is)
 
 pub returns-in-Err : goal.returns-in-Err
 returns-in-Err c =
     let a = c.args in
-    rw c.from-in-Err.ensures (at_unnamed a.src.now a.place a.out.now a.count.now (omega arith) a.mode (names_none (mode_of a.mode) c.try_from.ensures c.in-Err.is))
+    rw c.from-in-Err.ensures (at_unnamed a.src.now a.place a.out.now a.count.now (omega arith) a.mode (names_none (mode_of a.mode) (record { 0 = a.mode }) c.try_from.ensures c.in-Err.is))
