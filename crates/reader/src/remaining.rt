@@ -34,6 +34,7 @@ impl Reader {
 
 impl<'a> Tokens<'a> {
     // The next token, as `next` gives it, with a promise that says besides where the reader then is.
+    #[inline(always)]
     pub fn advance(&mut self) -> Option<Token>
         ensures { (self.new.src ≡ self.old.src) × MatchOption result
             (Ends self.old.src.now self.old.reader × (self.new.reader ≡ self.old.reader))
@@ -52,6 +53,7 @@ impl<'a> Iterator for Tokens<'a> {
 
     ghost remaining = { item_count (λ s. rest s.src.now s.reader) };
 
+    #[inline(always)]
     fn next(&mut self) -> Option<Token> {
         self.advance()
     }

@@ -27,6 +27,7 @@ impl Reader {
     }
 
     // What a scan finds.
+    #[inline(always)]
     pub(crate) fn found(self, src: &[u8]) -> Option<(Token, Reader)>
         requires { Sound src.now self }
         ensures { MatchOption result (Ends src.now self) (λ p. Onward src.now self p.0 p.1) }
