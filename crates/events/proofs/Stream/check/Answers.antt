@@ -1,11 +1,7 @@
 -- What the test says.
 -- Assumes nothing.
-use Rattle.std.proofs.Common.{refl, sym, ◌∙◌}
 use Rattle.events.specs.SoundLaws.{fit}
 use Rattle.events.proofs.Stream.check.Goals as goal
 
 pub returns-then-is_sound-clause-fit : goal.returns-then-is_sound-clause-fit
 returns-then-is_sound-clause-fit c = fit _ c.is_sound.ensures c.if-is_sound.true
-
-pub returns-else-is_sound-clause-refused : goal.returns-else-is_sound-clause-refused
-returns-else-is_sound-clause-refused c = (refl, sym c.is_sound.ensures ∙ c.if-is_sound.false)
