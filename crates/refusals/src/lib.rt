@@ -82,43 +82,29 @@ impl From<Refusal> for u32 {
 
     // The number of a refusal.
     fn from(refusal: Refusal) -> u32 {
-        number(refusal)
+        match refusal {
+            Refusal::SourceTooLong => 1,
+            Refusal::WindowFull => 2,
+            Refusal::TooManyBookmarks => 3,
+            Refusal::NotLive => 4,
+            Refusal::EventsFull => 5,
+            Refusal::NothingOpen => 6,
+            Refusal::NoSpan => 7,
+            Refusal::Unbalanced => 8,
+            Refusal::NotSettled => 9,
+            Refusal::PastTheEnd => 10,
+            Refusal::TooDeep => 11,
+            Refusal::NoRoom => 15,
+            Refusal::NotAsOpened => 24,
+        }
     }
 }
 
 impl fmt::Display for Refusal {
     // A refusal is written as its number.
     fn fmt<W: fmt::Write>(&self, f: &mut fmt::Formatter<W>) -> fmt::Result {
-        write!(f, "{}", number(*self))
+        write!(f, "{}", u32::from(*self))
     }
 }
 
 impl Error for Refusal {}
-
-// What a call answers that gives nothing else.
-#[derive(Clone, Copy)]
-pub enum DoneAnswer {
-    Done,
-    Refused(Refusal),
-}
-
-// The number of a refusal.
-pub fn number(refusal: Refusal) -> u32
-    ensures { result ≡ number_of refusal }
-{
-    match refusal {
-        Refusal::SourceTooLong => 1,
-        Refusal::WindowFull => 2,
-        Refusal::TooManyBookmarks => 3,
-        Refusal::NotLive => 4,
-        Refusal::EventsFull => 5,
-        Refusal::NothingOpen => 6,
-        Refusal::NoSpan => 7,
-        Refusal::Unbalanced => 8,
-        Refusal::NotSettled => 9,
-        Refusal::PastTheEnd => 10,
-        Refusal::TooDeep => 11,
-        Refusal::NoRoom => 15,
-        Refusal::NotAsOpened => 24,
-    }
-}
