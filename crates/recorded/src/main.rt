@@ -23,7 +23,7 @@ fn replay(alloc: Global, line: &[u8]) -> Result<Outcome, AllocError> {
     let mut src = vec![in alloc; 0; MOST_BYTES]?;
     let source = lines::decode(line, 0, &mut src);
     src.truncate(source.len);
-    let first = record::numbers(alloc, line, source.end)?;
+    let first = record::read(alloc, line, source.end)?;
     match line.get(first.end) {
         Some(b';') => sequences::replay(alloc, line, first.end + 1, &src, &first.all),
         Some(b'\n') => Ok(Outcome::without_calls(tokenizer::is_right(&src, &first.all))),

@@ -12,7 +12,7 @@ pub(crate) struct Numbers {
 }
 
 // Reads the numbers at the place, each behind a space.
-pub(crate) fn numbers(alloc: Global, line: &[u8], from: usize) -> Result<Numbers, AllocError> {
+pub(crate) fn read(alloc: Global, line: &[u8], from: usize) -> Result<Numbers, AllocError> {
     let mut all = Vec::new(alloc);
     let mut end = from;
     for _ in 0..MOST_NUMBERS {

@@ -85,7 +85,7 @@ pub(crate) fn replay(
     src: &[u8],
     script: &[u32],
 ) -> Result<Outcome, AllocError> {
-    let recorded = record::numbers(alloc, line, at)?;
+    let recorded = record::read(alloc, line, at)?;
     let whole = line.get(recorded.end) == Some(&b'\n');
     if whole && is_script(script.len(), recorded.all.len()) {
         return answered(alloc, src, script, &recorded.all);

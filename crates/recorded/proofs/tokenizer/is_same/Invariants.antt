@@ -2,5 +2,5 @@
 use Rattle.std.proofs.Common.{length}
 use Rattle.recorded.proofs.tokenizer.is_same.Given as goal
 
-abbrev pub decreases-loop-kind : goal.decreases-loop-kind
-decreases-loop-kind l = length l.left
+abbrev pub decreases-loop-left : goal.decreases-loop-left
+decreases-loop-left l = length l.left
