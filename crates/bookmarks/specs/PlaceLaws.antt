@@ -1,4 +1,4 @@
--- What the place of a bookmark as an Option says: one is live where a place is found, and the shift at that place makes the list with one less.
+-- What the place of a bookmark as an Option says: one is live where a place is found, and the shift at that place leaves one less.
 -- By induction on the live ones. Assumes nothing.
 use Rattle.std.specs.Prelude.{ℕ, zero, suc, ◌+◌, ◌-◌, ◌≤◌, ◌≡◌, refl, Bool, true, false, cond, Some, None, length, get_or, take, drop, set, eqb, ltb, is_some}
 use Rattle.std.specs.List.{position_or_len, copy_within}

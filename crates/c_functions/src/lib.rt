@@ -15,8 +15,8 @@ pub use c_tokens::rattle_tokens;
 pub use c_window::rattle_window;
 use refusals::Refusal;
 
-// The number of an answer: 0 where it is done, else that of the refusal. The crate statuses has it for the calls that nothing builds yet; to
-// lean on an unfinished crate for one match is no plainer.
+// The number of an answer: 0 where it is done, else that of the refusal. The crate statuses has it for the unfinished calls; to lean on
+// that crate for one match is no plainer.
 fn status(answer: Result<(), Refusal>) -> u32
     ensures { result ≡ status_of answer }
 {

@@ -3,6 +3,7 @@
 #![tactic(auto)]
 
 ghost use Rattle.std.specs.Prelude.{◌≡◌, true, false, IfOk, IfErr};
+ghost use Rattle.refusals.specs.declared.Refusal.TheVariants.{NotAsOpened};
 ghost use Rattle.stream_numbers.specs.Numbers.{truth_number, stream_of, numbers_of, put_count, put_last, put_opened, put_bookmarks, put_popped, forged};
 
 use event_record::Span;
@@ -72,7 +73,7 @@ pub fn numbers_of(stream: Stream) -> Numbers
 // The record that the numbers are, where they are those of one: 24 refuses the others.
 pub fn record_of(numbers: Numbers) -> Result<Stream, Refusal>
     ensures record { IfOk result (λ t. (forged numbers ≡ false) × (t ≡ stream_of numbers)) }
-    ensures refused { IfErr result (λ n. (forged numbers ≡ true) × (n ≡ Refusal.NotAsOpened)) }
+    ensures refused { IfErr result (λ n. (forged numbers ≡ true) × (n ≡ NotAsOpened)) }
 {
     if is_forged(numbers) {
         return Err(Refusal::NotAsOpened);
