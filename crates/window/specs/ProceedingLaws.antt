@@ -1,6 +1,6 @@
 -- How a call that wants tokens is answered: by what reaching them gives, refused as that was, or from there on.
 -- Assumes nothing.
-use Rattle.std.specs.Prelude.{ℕ, suc, ◌≤◌, List, length, ltb, Result, Ok, Err}
+use Rattle.std.specs.Prelude.{ℕ, suc, ◌≤◌, refl, List, length, ltb, Result, Ok, Err}
 use Rattle.std.proofs.Math.Path.{◌≡◌}
 use Rattle.std.proofs.Common.{sym, ap, ◌∙◌, arith}
 use Rattle.std.proofs.Math.Bool.{true}
@@ -8,6 +8,7 @@ use Rattle.std.proofs.Math.Dec.{leb}
 use borrow.Author.Tests.{le-leb}
 use Rattle.patterns.proofs.Bools.{by_test}
 use Rattle.refusals.specs.declared.Refusal.{Refusal}
+use Rattle.refusals.specs.declared.Given.{Given}
 use Rattle.refusals.specs.Refusals.{number_of}
 use Rattle.token_record.specs.Record.{Call, next_token, peek_token, Answer, done, refused, Reply, reply, wants}
 use Rattle.fetching.specs.declared.Stored.{Stored}
@@ -38,27 +39,45 @@ module _ (src : List ℕ) (s : State) where
       rw p (by_test (ltb (fetch src n s).window.slots (kept (fetch src n s).window)) (λ q. rw q f.current_low) (λ q. rw q (omega (arith, f.current_low)))))
       (λ p. let no : refused 24 ≡ done = rw p at d in let z : ◌≡◌ {A = ℕ} 0 1 = cc in absurd (omega arith))
 
-  -- what the code came to, reaching
-  module _ (n : ℕ) (r : Result Stored Refusal) (room : List ℕ) (q : done_reply (reached s.window r) room ≡ reach src n s) where
+  -- the code's answer g to reaching
+  module _ (n : ℕ) (g : Given Unit Window) (room : List ℕ) (q : done_reply g room ≡ reach src n s) where
     module _ (c : Call) (k : ℕ) (e : wants c ≡ suc k) (m : n ≡ suc k) where
-      proceeded : proceed c (done_told (reached s.window r).answer) (state (reached s.window r).after room) ≡ step src c s
+      proceeded : proceed c (done_told g.answer) (state g.after room) ≡ step src c s
       proceeded = ap (λ (y : Reply State). proceed c y.answer y.after) (q ∙ ap (λ (j : ℕ). reach src j s) m) ∙ proceeds c k e
 
-      pub refused_there : (x : Refusal) → r ≡ Err x → reply (refused (number_of x)) (state s.window room) ≡ step src c s
+      pub went_on : g.answer ≡ Ok tt → answered c (state g.after room) ≡ step src c s
+      unfolding proceed
+      went_on d = rw d at proceeded
+
+      pub refused_there : (x : Refusal) → g.answer ≡ Err x → reply (refused (number_of x)) (state g.after room) ≡ step src c s
       unfolding proceed
       refused_there x d = rw d at proceeded
 
-      pub went_on : (o : Stored) → r ≡ Ok o → {v : Window} → v ≡ read_on o.reader o.next.0 s.window → answered c (state v room) ≡ step src c s
-      unfolding proceed
-      went_on o d f = rw f (rw d at proceeded)
+    pub reached_low : g.answer ≡ Ok tt → g.after.current.0 ≤ g.after.fetched.0
+    reached_low d =
+        let told : (reach src n s).answer ≡ done = sym (ap (λ (y : Reply State). y.answer) q) ∙ ap done_told d in
+        rw (← q) at (reached_current n told)
 
-    pub reached_low : (o : Stored) → r ≡ Ok o → {v : Window} → v ≡ read_on o.reader o.next.0 s.window → v.current.0 ≤ v.fetched.0
-    reached_low o d f =
-        let told : (reach src n s).answer ≡ done =
-        sym (ap (λ (y : Reply State). y.answer) q) ∙ ap (λ (p : Result Stored Refusal). done_told (reached s.window p).answer) d in
-        let low : (reached s.window r).after.current.0 ≤ (reached s.window r).after.fetched.0 =
-        rw (ap (λ (y : Reply State). y.after.window) q) (reached_current n told) in
-        rw f (rw d at low)
+-- The code reads the window on to where its call came: what is given then.
+abbrev pub given : Result Stored Refusal → Window → Given Unit Window
+given r v = record { answer = (reached v r).answer; after = v }
+
+pub read_there : (w v : Window) (r : Result Stored Refusal) (room : List ℕ) {y : Reply State} → v ≡ (reached w r).after
+    → done_reply (reached w r) room ≡ y → done_reply (given r v) room ≡ y
+read_there w v (Ok o) room e q = ap (λ (u : Window). done_reply (given (Ok o) u) room) e ∙ q
+read_there w v (Err x) room e q = ap (λ (u : Window). done_reply (given (Err x) u) room) e ∙ q
+
+-- The same of the window that is read on, by what the code came to.
+module _ (src : List ℕ) (s : State) (n : ℕ) (r : Result Stored Refusal) (room : List ℕ) (q : done_reply (reached s.window r) room ≡ reach src n s) where
+  module _ (c : Call) (k : ℕ) (e : wants c ≡ suc k) (m : n ≡ suc k) where
+    pub refused_still : (x : Refusal) → r ≡ Err x → reply (refused (number_of x)) (state s.window room) ≡ step src c s
+    refused_still x d = refused_there src s n (reached s.window (Err x)) room (rw d at q) c k e m x refl
+
+    pub read_went_on : (o : Stored) → r ≡ Ok o → {v : Window} → v ≡ read_on o.reader o.next.0 s.window → answered c (state v room) ≡ step src c s
+    read_went_on o d f = rw f (went_on src s n (reached s.window (Ok o)) room (rw d at q) c k e m refl)
+
+  pub read_low : (o : Stored) → r ≡ Ok o → {v : Window} → v ≡ read_on o.reader o.next.0 s.window → v.current.0 ≤ v.fetched.0
+  read_low o d f = rw f (reached_low src s n (reached s.window (Ok o)) room (rw d at q) refl)
 
 -- What next and peek answer.
 module _ (s : State) where

@@ -4,7 +4,7 @@ use Rattle.std.proofs.Common.{refl, sym, ◌∙◌, leb-true, le-leb}
 use Rattle.std.proofs.lemmas.Bool.{false≢true}
 use Rattle.std.proofs.lemmas.Iterator.Consumers.{nth_from_yields_List, YieldsList-from_first}
 use Rattle.reader.specs.Following.{rest}
-use Rattle.fetching.proofs.FetchingLaws.{few_fit, short_fits, rest_fits}
+use Rattle.fetching.proofs.FetchingLaws.{few_fit, short_fits, nth_fits}
 use Rattle.fetching.proofs.fits.Goals as goal
 use Rattle.fetching.proofs.fits.Goals.{then-need-spare, else-need-spare}
 
@@ -24,5 +24,5 @@ returns-else-tokens-spare c =
     let found = nth_from_yields_List c.nth.result c.nth.new.self a.spare c.nth.ensures.ran (YieldsList-from_first (λ x. x) (λ s. rest s.src.now s.reader) _ refl) in
     elim c.if-need-spare.branch [
       | then-need-spare w ↦ absurd (false≢true (sym c.if-tokens-spare.false ∙ w.value-is ∙ le-leb _ _ w.if-need-spare.true))
-      | else-need-spare w ↦ rest_fits a.tokens.src.now r a.need a.spare w.if-need-spare.false c.nth.result found c.is_none.result c.is_none.ensures
+      | else-need-spare w ↦ nth_fits a.tokens.src.now r a.need a.spare w.if-need-spare.false c.nth.result found c.is_none.result c.is_none.ensures
     ]
