@@ -6,6 +6,7 @@ pub mod OpenLaws
 pub mod Determined
 pub mod TestLaws
 pub mod Reaching
+pub mod ReachingParts
 pub mod ReachingLaws
 pub mod Proceeding
 pub mod ProceedingLaws

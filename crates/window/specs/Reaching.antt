@@ -1,14 +1,12 @@
 -- Fetching for a call that wants n tokens, with its refusals: 24, then 2.
 -- Assumes nothing.
 use Rattle.std.specs.Prelude.{ℕ, cond, List, length, ltb, Result, Ok, Err}
-use Rattle.refusals.specs.Calls as calls
 use Rattle.refusals.specs.declared.Given.{Given}
 use Rattle.refusals.specs.declared.Refusal.{Refusal}
 use Rattle.token_record.specs.Record.{done, refused, Reply, reply}
 use Rattle.fetching.specs.declared.Stored.{Stored}
-use Rattle.fetching.specs.Fetching as fetching
 use Rattle.window.specs.declared.Window.{Window}
-use Rattle.window.specs.Window.{State, state, kept, sound, fetch, read_on}
+use Rattle.window.specs.Window.{State, kept, sound, fetch, read_on}
 
 unfoldable pub reach : List ℕ → ℕ → State → Reply State
 reach src n s =
@@ -21,11 +19,3 @@ reach src n s =
 abbrev pub reached : Window → Result Stored Refusal → Given Unit Window
 reached w (Ok r) = record { answer = Ok tt; after = read_on r.reader r.next.0 w }
 reached w (Err n) = record { answer = Err n; after = w }
-
--- the same of fetching's answer, in its values
-abbrev pub gained : Window → fetching.Answer → List ℕ → Reply State
-gained w (fetching.upto behind next) room = reply done (state (read_on behind next.0 w) room)
-gained w (fetching.refused n) room = reply (refused n) (state w room)
-
-abbrev pub turned : Window → calls.Reply fetching.Answer (List ℕ) → Reply State
-turned w o = gained w o.answer o.after

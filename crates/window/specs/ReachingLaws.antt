@@ -23,7 +23,8 @@ use Rattle.window.specs.Window.{State, marks, kept, sound, fetch, done_told, don
 use Rattle.window.specs.SoundLaws.{Fit, fit_sound}
 use Rattle.window.specs.WindowLaws.{fetch_none}
 use Rattle.window.specs.Determined.{done_read, done_same}
-use Rattle.window.specs.Reaching.{reach, reached, turned}
+use Rattle.window.specs.Reaching.{reach, reached}
+use Rattle.window.specs.ReachingParts.{gathered, turned}
 
 -- from the limit on, every number of tokens is all of them
 ahead_most : (src : List ℕ) (r : Reader) (k : ℕ) → length src ≤ source_limit → ahead (min k source_limit) src r ≡ ahead k src r
@@ -57,7 +58,7 @@ module _ (src : List ℕ) (s : State) where
         rw (le-leb _ _ f.limit, le-leb _ _ f.inside, le-leb _ _ f.fetched_low)
 
     reached_fetched : (n : ℕ)
-        → turned s.window (fetched src s.window.reader s.room s.window.fetched (beyond n) (s.window.slots - kept s.window))
+        → turned s.window (gathered s.window.reader s.window.fetched (fetched src s.window.reader s.room s.window.fetched (beyond n) (s.window.slots - kept s.window)))
         ≡ reach src n s
     unfolding fetched reach fetch
     reached_fetched n =
@@ -79,7 +80,7 @@ module _ (src : List ℕ) (s : State) where
     -- as many as are wanted beyond those ready, which are fetched and not taken
     pub reached_by : (n need spare : ℕ) → s.window.fetched.0 - s.window.current.0 ≤ n
         → need ≡ min (n - (s.window.fetched.0 - s.window.current.0) + 1) source_limit → spare ≡ s.window.slots - kept s.window
-        → turned s.window (fetched src s.window.reader s.room s.window.fetched need spare)
+        → turned s.window (gathered s.window.reader s.window.fetched (fetched src s.window.reader s.room s.window.fetched need spare))
         ≡ reach src (suc n) s
     reached_by n need spare h p q =
         let w = s.window in
@@ -87,10 +88,10 @@ module _ (src : List ℕ) (s : State) where
         let most : fetched src w.reader s.room w.fetched need spare
         ≡ fetched src w.reader s.room w.fetched (beyond (suc n)) (w.slots - kept w) =
         rw (p, q, k) (fetched_most src w.reader s.room w.fetched (beyond (suc n)) (w.slots - kept w) f.limit) in
-        ap (turned w) most ∙ reached_fetched (suc n)
+        ap (λ o. turned w (gathered w.reader w.fetched o)) most ∙ reached_fetched (suc n)
 
 -- what fetching's outcome comes to, in its values
-pub reached_turned : (w : Window) (r : Result Stored Refusal) (room : List ℕ) → done_reply (reached w r) room ≡ turned w (outcome r room)
+pub reached_turned : (w : Window) (r : Result Stored Refusal) (room : List ℕ) → done_reply (reached w r) room ≡ turned w (gathered w.reader w.fetched (outcome r room))
 reached_turned w (Ok r) room = refl
 reached_turned w (Err n) room = refl
 

@@ -3,7 +3,7 @@
 use Rattle.std.proofs.Common.{ℕ, ◌-◌, ap, ◌∙◌, arith}
 use Rattle.window.specs.Window.{state}
 use Rattle.window.specs.TestLaws.{kept_in_order}
-use Rattle.window.specs.Reaching.{turned}
+use Rattle.window.specs.ReachingParts.{gathered, turned}
 use Rattle.window.specs.ReachingLaws.{reached_now, reached_by, reached_turned}
 use Rattle.window.proofs.Window.fetch.Goals as goal
 
@@ -20,5 +20,5 @@ returns c =
     let a = c.args in
     let w = a.self.now in
     let spare = ap (λ (n : ℕ). w.slots - n) (c.kept.ensures ∙ kept_in_order w c.requires.held_marks) in
-    reached_turned w c.fetch.result c.fetch.new.room ∙ ap (turned w) c.fetch.ensures
+    reached_turned w c.fetch.result c.fetch.new.room ∙ ap (λ o. turned w (gathered w.reader w.fetched o)) c.fetch.ensures
     ∙ reached_by a.src.now (state w a.room.now) c.requires a.n _ _ c.if-n-ready.false (omega (arith, c.min-need.ensures)) spare
