@@ -20,7 +20,8 @@ pub struct Asked {
 // An answer as numbers: which one, and its values.
 pub type Told = [usize; 5];
 
-// An answer with the stream after it.
+// An answer with the stream after it. The window's scripts have the like over their own numbers: what both could share, `Tell` and `put`,
+// asks something of its caller or speaks of one number type, and a public function asks nothing.
 #[derive(Clone, Copy)]
 pub struct ToldGiven {
     pub told: Told,

@@ -1,5 +1,6 @@
 // The event stream: the nodes, tokens and errors that a parser finds, in order, in a ring of slots that is lent. Its record, the answers,
-// and the steps that more than one call is made of; each group of calls has a module.
+// and the steps that more than one call is made of; each group of calls has a module. The two rooms stand side by side in each call, to
+// which they are lent (document 01): some calls write into both, some into one, some into none.
 #![tactic(auto)]
 
 ghost use Rattle.std.specs.Prelude.{◌+◌, ◌-◌, ◌≡◌, length, OnOk, IfErr};

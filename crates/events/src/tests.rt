@@ -1,4 +1,4 @@
-// The tests of the event stream: whether it is one over its rooms.
+// The tests of the event stream: whether it is one over its rooms. Slots and positions are compared with counts by the numbers in them.
 ghost use Rattle.std.specs.Prelude.{◌≤◌, ◌≡◌, length};
 ghost use Rattle.events.specs.Stream.{state, sound};
 ghost use Rattle.events.specs.SoundLaws.{begun};

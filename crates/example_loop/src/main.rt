@@ -26,6 +26,8 @@ fn walk(rt: &impl Print, src: &[u8], room: &mut [u32], opened: Window) -> io::Re
 {
     let mut window = opened;
     let mut count = 0;
+
+    // no `while let`: a refusal is said, not passed over
     loop {
         match window.next_token(src, room).left_in(&mut window) {
             Ok(Some(token)) => show(rt, src, token)?,

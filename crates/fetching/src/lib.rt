@@ -30,6 +30,8 @@ pub fn fetch(
     ensures { outcome result room.new ≡ fetched src.now reader room.old first need spare }
 {
     let tokens = reader.tokens(src)?;
+
+    // a place and an index: counts of two kinds
     if reader.place.0 < first.0 {
         return Err(Refusal::NotAsOpened);
     }

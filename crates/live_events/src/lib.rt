@@ -1,5 +1,6 @@
 // The event stream's calls on a record that stands as numbers in memory of the caller's between them. Each reads the numbers, makes the
-// stream's own call and stores what it changes: nothing where it is refused. Numbers that no record has are refused by 24.
+// stream's own call and stores what it changes: nothing where it is refused. Numbers that no record has are refused by 24. Calls with the
+// same parameters are alike but for the stream's call: those four lines are all that a function for both could share.
 #![tactic(auto)]
 
 ghost use Rattle.std.specs.Prelude.{◌≡◌, length};

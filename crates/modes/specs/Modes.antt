@@ -1,17 +1,16 @@
--- The modes by number. A number that is no mode's is refused before it is read.
+-- The modes by number, as tokens/specs/Modes has them. A number that is no mode's is refused before it is read.
 -- Assumes nothing.
-use Rattle.std.specs.Prelude.{ℕ, zero, suc, ◌<◌, ◌≡◌, refl, [], ◌∷◌, get_or}
+use Rattle.std.specs.Prelude.{ℕ, zero, suc, ◌<◌, ◌≡◌, refl, unwrap_or}
 use Rattle.std.proofs.Common.{arith}
+use Rattle.tokens.specs.Modes as by_number
 use Rattle.tokens.specs.declared.Mode.{Mode}
 use Rattle.tokens.specs.declared.Mode.TheVariants.{Normal, HexPattern, HexJump}
 
 abbrev pub number_of : Mode → ℕ
-number_of Normal = 0
-number_of HexPattern = 1
-number_of HexJump = 2
+number_of m = by_number.number_of m
 
 abbrev pub mode_of : ℕ → Mode
-mode_of n = get_or (Normal ∷ HexPattern ∷ []) n HexJump
+mode_of n = unwrap_or (by_number.mode_of n) HexJump
 
 -- Each is read back from the other.
 pub mode_back : (m : Mode) → mode_of (number_of m) ≡ m

@@ -12,7 +12,7 @@ use refusals::Refusal;
 use rooms::Slot;
 use tokens::Offset;
 
-// How many numbers a record is.
+// How many numbers a record is. Their places are written out: they are the layout that a caller's memory has, C's too.
 pub const NUMBERS: usize = 16;
 
 // The numbers of a record.

@@ -1,4 +1,5 @@
-// The lent room: token i stands as kind, start, end in slot i mod W, W being the number of slots.
+// The lent room: token i stands as kind, start, end in slot i mod W, W being the number of slots. A slot that is there is required by the
+// one function that writes it and the one that reads it, and there is one of each.
 #![tactic(auto)]
 
 ghost use Rattle.std.specs.Prelude.{◌≡◌, ◌+◌, ◌*◌, ◌≤◌, ◌<◌, length};

@@ -1,4 +1,5 @@
-// The window's bookmarks: set at the current index, gone back to, dropped. No call fetches.
+// The window's bookmarks: set at the current index, gone back to, dropped. No call fetches. Each begins with the test of 24, as three
+// lines: `?` hands on a Result alone, and a refused call gives back the window too.
 ghost use Rattle.std.specs.Prelude.{◌≡◌};
 ghost use Rattle.token_record.specs.Record.{bookmark, restore_bookmark, remove_bookmark};
 ghost use Rattle.window.specs.Window.{state, step, index_reply, done_reply};

@@ -1,4 +1,5 @@
 // The window's tokens: the next one, those ahead of it, and whether there are more. Each call first reaches what it wants of the source.
+// Indexes are compared by the numbers in them, as the definitions do it.
 ghost use Rattle.std.specs.Prelude.{◌≤◌, ◌≡◌, Ok};
 ghost use Rattle.token_record.specs.Record.{next_token, peek_token, has_more};
 ghost use Rattle.window.specs.Window.{state, seen, past, step, token_told, token_reply, more_reply};

@@ -1,4 +1,5 @@
-// The tests of the window: whether it is one for a source and a room, and how many tokens it keeps.
+// The tests of the window: whether it is one for a source and a room, and how many tokens it keeps. Places and indexes are compared by
+// the numbers in them: they are counts of two kinds, and the definitions compare them so.
 ghost use Rattle.std.specs.Prelude.{◌≡◌};
 ghost use Rattle.window.specs.Window.{sound};
 ghost use Rattle.window.specs.TestLaws.{kept_behind_first, as_opened, placed};

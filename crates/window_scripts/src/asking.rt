@@ -11,7 +11,7 @@ use window::{Given, Window};
 // An answer as numbers: which one, and its values.
 pub type Told = [u32; 4];
 
-// What a call gives: the window after it, and its answer as numbers.
+// What a call gives: the window after it, and its answer as numbers. (The event stream's scripts: crate event_scripts.)
 #[derive(Clone, Copy)]
 pub struct ToldGiven {
     pub window: Window,
@@ -66,7 +66,7 @@ impl Tell for () {
     }
 }
 
-// One call, by its number; a number that is none of the calls' asks for the current index.
+// One call, by its number, as scripts from C have it; a number that is none of the calls' asks for the current index.
 pub fn call(window: Window, src: &[u8], room: &mut [u32], op: u32, arg: u32) -> ToldGiven
     ensures { told_reply result room.new ≡ told_of (step src.now (call_of op arg) (state window room.old)) }
 {
