@@ -1,6 +1,7 @@
 -- Runs of ten, found by halves in a table of their first values: what a search has come to, and what it says in the end. The one rule that
 -- the table has to meet, that each run ends before the next begins, is computed (nd_spaced). Assumes nothing.
 use Rattle.std.specs.Prelude.{ℕ, zero, suc, ◌+◌, ◌-◌, ◌≤◌, ◌<◌, ◌≡◌, refl, true, false, List, [], ◌∷◌, length, get_or, leb, ltb}
+use Rattle.std.specs.List.Sorted.{IsPartitionPoint}
 use Rattle.std.proofs.Common.{sym, arith, le-leb, leb-true, leb-false, lt-ltb, le-ltb}
 use Rattle.std.proofs.lemmas.Bool.{lt-leb}
 use Rattle.patterns.proofs.Bools.{and_first, and_second, by_test}
@@ -19,6 +20,14 @@ gap : (d : ℕ) (ds : List ℕ) → spaced (d ∷ ds) ≡ true → (k : ℕ) →
 gap d [] r k h = absurd (omega arith)
 gap d (e ∷ ds) r zero h = first_gap d e ds r
 gap d (e ∷ ds) r (suc k) h = omega (arith, first_gap d e ds r, gap e ds (rest_spaced d (e ∷ ds) r) k (omega arith))
+
+-- and their first values rise
+pub rises : (ds : List ℕ) → spaced ds ≡ true → (i j : ℕ) → i ≤ j → j < length ds → get_or ds i 0 ≤ get_or ds j 0
+rises [] r i j o h = absurd (omega arith)
+rises (d ∷ ds) r zero zero o h = omega arith
+rises (d ∷ ds) r zero (suc j) o h = omega (arith, gap d ds r j (omega arith))
+rises (d ∷ ds) r (suc i) zero o h = absurd (omega arith)
+rises (d ∷ ds) r (suc i) (suc j) o h = rises ds (rest_spaced d ds r) i j (omega arith) (omega arith)
 
 module _ (v : ℕ) where
   -- before the first run
@@ -48,6 +57,15 @@ pub record Around (ds : List ℕ) (v low high : ℕ) : Type 0 where
 module _ (ds : List ℕ) (v : ℕ) where
   pub whole_table : Around ds v 0 (length ds)
   whole_table = record { order = omega arith; inside = omega arith; below = λ z. absurd (z refl); above = λ h. absurd (omega arith) }
+
+  -- where the runs that begin at or before v end
+  pub parted : {n : ℕ} → n ≤ length ds → IsPartitionPoint (λ d. leb d v ≡ true) (λ d. leb d v ≡ false) ds n → Around ds v n n
+  parted {n} h p = record {
+    order = omega arith;
+    inside = h;
+    below = λ z. leb-true (get_or ds (n - 1) 0) v (p.0 (n - 1) 0 (omega arith) (omega (arith, h)));
+    above = λ l. leb-false (get_or ds n 0) v (p.1 n 0 (omega arith) l);
+  }
 
   module _ {low high : ℕ} (a : Around ds v low high) where
     pub go_up : (m : ℕ) → m < high → get_or ds m 0 ≤ v → Around ds v (m + 1) high

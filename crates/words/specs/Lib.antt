@@ -5,3 +5,4 @@ pub mod Keywords
 pub mod Same
 pub mod Lengths
 pub mod Choosing
+pub mod Spellings

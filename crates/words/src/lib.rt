@@ -39,22 +39,10 @@ const DIGITS_16: [u32; 76] = [
     0x1D7E2, 0x1D7EC, 0x1D7F6, 0x1E140, 0x1E2F0, 0x1E4F0, 0x1E5F1, 0x1E950, 0x1FBF0,
 ];
 
-// Whether `v` is a decimal digit: the last run that begins at or before `v` is found by halves.
+// Whether `v` is a decimal digit: it is among the ten of the last run that begins at or before it.
 fn is_digit(v: u32) -> bool
     ensures { result ≡ in_runs digits_16 v }
 {
-    let mut low: usize = 0;
-    let mut high = DIGITS_16.len();
-    while low < high {
-        let mid = low + (high - low) / 2;
-        if DIGITS_16[mid] <= v {
-            low = mid + 1;
-        } else {
-            high = mid;
-        }
-    }
-    if low == 0 {
-        return false;
-    }
-    v - DIGITS_16[low - 1] < 10
+    let runs = DIGITS_16.partition_point(|first| *first <= v);
+    runs != 0 && v - DIGITS_16[runs - 1] < 10
 }
