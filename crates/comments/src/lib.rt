@@ -18,6 +18,8 @@ pub fn line_comment(src: &[u8], at: usize) -> usize
 }
 
 // The end of the block comment at `at`, or `at` where there is none. With `chars` it holds well-formed characters only, and else any bytes.
+// `chars` is an argument: one loop serves both, `unit` of specs/ is by it, and a const parameter would stand in proofs under names of
+// Rattle's own. The loop counts by hand, since a step is one to four bytes long.
 fn block(src: &[u8], at: usize, chars: bool) -> usize
     ensures { result ≡ at + longest (block_comment (unit chars)) (drop at src.now) }
 {

@@ -7,7 +7,7 @@ ghost use Rattle.words.specs.Spellings.{spelling};
 use tokens::IDENT;
 
 // The kind of a word: its own where it is a keyword, else IDENT. Each length has its spellings here: with a table that is indexed by the
-// length a scan of rule files takes 9 percent more instructions, and one `match` of all forty has more than a hundred goals.
+// length a scan of rule files takes 10 percent more instructions, and one `match` of all forty has more than a hundred goals.
 pub fn keyword(word: &[u8]) -> u32
     ensures { result ≡ keyword_of words_1 word.now }
 {
