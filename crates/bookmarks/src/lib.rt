@@ -29,7 +29,8 @@ pub fn is_sound(bookmarks: &Bookmarks, live: u32, top: TokenIndex) -> bool
     is_in_order(marks, top) && is_unused(others)
 }
 
-// Whether the marks are in order and at most `top`.
+// Whether the marks are in order and at most `top`. Here and below the loop has no branch, so that it can be vectorised: every call of
+// a window runs it. Marks are compared by the numbers in them, as the definitions do it.
 fn is_in_order(marks: &[TokenIndex], top: TokenIndex) -> bool
     ensures { result ≡ in_order 0 top.0 marks.now }
 {

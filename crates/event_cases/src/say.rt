@@ -4,7 +4,8 @@ use events::Stream;
 use lines::Spaced;
 use std::io;
 
-// What a call gives that is done: it is said in words.
+// What a call gives that is done: it is said in words. window_cases has a trait like it: one of a library could not be implemented here
+// for the event stream's types.
 pub(crate) trait Say: Copy {
     fn say(self, rt: &impl Print) -> io::Result<()>;
 }

@@ -1,4 +1,5 @@
 // The lent room of the events: slots of four numbers each (tag, kind or message, start, end), and the ring that they are (`ring`).
+// A slot is compared with how many there are by the number in it.
 #![tactic(auto)]
 
 ghost use Rattle.std.specs.Prelude.{◌≡◌, ◌+◌, ◌*◌, ◌≤◌, length};

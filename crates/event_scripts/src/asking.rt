@@ -8,7 +8,7 @@ use event_record::{Event, Position, Span};
 use events::{Given, Stream};
 use tokens::Offset;
 
-// A call: which one, and its arguments.
+// A call: which one, by its number as scripts from C have it, and its arguments.
 #[derive(Clone, Copy)]
 pub struct Asked {
     pub op: u32,

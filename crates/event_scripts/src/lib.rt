@@ -36,7 +36,8 @@ pub fn replay(
     Ok(())
 }
 
-// Runs the first calls of a script, and notes their answers from the front on; gives the stream after them.
+// Runs the first calls of a script, and notes their answers from the front on; gives the stream after them. It goes by index: of what is
+// written through `chunks_exact_mut` a proof knows nothing but the length.
 fn run(
     opened: Stream,
     script: &[u32],

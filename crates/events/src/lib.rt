@@ -1,6 +1,6 @@
-// The event stream: the nodes, tokens and errors that a parser finds, in order, in a ring of slots that is lent. Its record, the answers,
-// and the steps that more than one call is made of; each group of calls has a module. The two rooms stand side by side in each call, to
-// which they are lent (document 01): some calls write into both, some into one, some into none.
+// The event stream: the nodes, tokens and errors that a parser finds, in order, in a ring of slots that is lent. Its record, what a call
+// gives, and the steps that more than one call is made of; each group of calls has a module. The two rooms stand side by side in each call,
+// to which they are lent (document 01): some calls write into both, some into one, some into none.
 #![tactic(auto)]
 
 ghost use Rattle.std.specs.Prelude.{◌+◌, ◌-◌, ◌≡◌, length, OnOk, IfErr};
@@ -24,7 +24,7 @@ use refusals::Refusal;
 use rooms::Slot;
 use tokens::Offset;
 
-// Where a span ends at the latest, and how many bookmarks can live.
+// Where a span ends at the latest.
 pub const SPAN_LIMIT: u32 = 65535;
 
 // How many bookmarks can live.

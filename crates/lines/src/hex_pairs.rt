@@ -12,6 +12,7 @@ pub struct Decoded {
 }
 
 // Decodes pairs of hexadecimal digits at the place into the front of `out`: as many as there are, and as there is room for.
+// It goes by index: of what is written through `iter_mut` a proof knows nothing but the length.
 pub fn decode(text: &[u8], from: usize, out: &mut [u8]) -> Decoded
     ensures { Decodes text.now from out.old out.new result.len result.end }
 {

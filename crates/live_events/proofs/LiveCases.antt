@@ -15,12 +15,19 @@ module _ (c : Call) (l : Lent) where
   unfolding live
   not_made f = rw f
 
-  -- the record read, the call made on it, its answer, and what it changes stored, or nothing
-  pub made : {w : Stream} → (forged l.stream ≡ false) × (w ≡ stream_of l.stream) → {A : Type 0} (told : A → Answer) {t : Stream} {a b : A} {stream room opens : List ℕ}
+  -- the record read, the call made on it, its answer, and what it changes stored
+  pub made : forged l.stream ≡ false → {A : Type 0} (told : A → Answer) {w t : Stream} {a b : A} {stream room opens : List ℕ}
+      → w ≡ stream_of l.stream → reply (told a) (state t room opens) ≡ step c (state w l.room l.opens)
+      → (b ≡ a) × (stream ≡ left (told a) l.stream (changed c l.stream t)) → reply (told b) (lent stream room opens) ≡ live c l
+  unfolding live
+  made f told q e s = rw (f, s.0, s.1, ← q) (ap (kept c l.stream) e)
+
+  -- the same as the code's steps have it: the record with that it is one, and the arm's equation
+  pub made_by : {w : Stream} → (forged l.stream ≡ false) × (w ≡ stream_of l.stream) → {A : Type 0} (told : A → Answer) {t : Stream} {a b : A} {stream room opens : List ℕ}
       → reply (told a) (state t room opens) ≡ step c (state w l.room l.opens) → a ≡ b → stream ≡ left (told b) l.stream (changed c l.stream t)
       → reply (told b) (lent stream room opens) ≡ live c l
   unfolding live
-  made r told e p s = rw (r.0, s, ← p, ← r.1) (ap (kept c l.stream) e)
+  made_by r told e p s = rw (r.0, s, ← p, ← r.1) (ap (kept c l.stream) e)
 
 -- what a pop changes is left where it found an event
 pub some_left : (o : Option Event) (l : List ℕ) {k j : List ℕ} → is_some o ≡ true → j ≡ k → j ≡ left (popped o) l k

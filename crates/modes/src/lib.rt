@@ -1,4 +1,5 @@
-// The scanner's modes by number, for memory that is not Rattle's: 0 normal, 1 pattern, 2 jump.
+// The scanner's modes by number, for memory that is not Rattle's: 0 normal, 1 pattern, 2 jump. Thin calls over the conversions of
+// tokens::Mode, with promises of their own: every number is read as a mode.
 #![tactic(auto)]
 
 ghost use Rattle.std.specs.Prelude.{◌≡◌};

@@ -37,7 +37,8 @@ pub fn replay(
     Ok(())
 }
 
-// Runs the first calls of a script, and notes their answers from the front on.
+// Runs the first calls of a script, and notes their answers from the front on. It goes by index: of what is written through
+// `chunks_exact_mut` a proof knows nothing but the length.
 fn run(
     opened: Window,
     src: &[u8],

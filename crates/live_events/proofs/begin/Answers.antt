@@ -5,7 +5,7 @@ use Rattle.std.proofs.lemmas.Result.{err_from_is_err_and}
 use Rattle.event_record.specs.Record.{begin}
 use Rattle.events.specs.Stream.{done_told}
 use Rattle.live_events.specs.Live.{lent}
-use Rattle.live_events.proofs.LiveCases.{not_made, made}
+use Rattle.live_events.proofs.LiveCases.{not_made, made_by}
 use Rattle.live_events.proofs.begin.Goals as goal
 
 pub returns-in_err-record_of : goal.returns-in_err-record_of
@@ -19,9 +19,9 @@ pub returns-in_err-given : goal.returns-in_err-given
 returns-in_err-given c =
     let a = c.args in
     let p = err_from_is_err_and c.from_residual-in_err-given.result c.from_residual-in_err-given.ensures.1 in
-    rw (p.1, p.2) (made (begin a.kind) (lent a.stream.now a.room.now a.opens.now) c.in_ok-record_of.ensures.record done_told c.begin-given.ensures c.in_err-given.was refl)
+    rw (p.1, p.2) (made_by (begin a.kind) (lent a.stream.now a.room.now a.opens.now) c.in_ok-record_of.ensures.record done_told c.begin-given.ensures c.in_err-given.was refl)
 
 pub returns : goal.returns
 returns c =
     let a = c.args in
-    made (begin a.kind) (lent a.stream.now a.room.now a.opens.now) c.in_ok-record_of.ensures.record done_told c.begin-given.ensures c.in_ok-given.was c.store_opened.ensures
+    made_by (begin a.kind) (lent a.stream.now a.room.now a.opens.now) c.in_ok-record_of.ensures.record done_told c.begin-given.ensures c.in_ok-given.was c.store_opened.ensures

@@ -5,7 +5,7 @@ use Rattle.std.proofs.lemmas.Result.{err_from_is_err_and}
 use Rattle.event_record.specs.Record.{pop}
 use Rattle.events.specs.Stream.{event_told}
 use Rattle.live_events.specs.Live.{lent}
-use Rattle.live_events.proofs.LiveCases.{not_made, made, some_left, none_left}
+use Rattle.live_events.proofs.LiveCases.{not_made, made_by, some_left, none_left}
 use Rattle.live_events.proofs.pop.Goals as goal
 
 pub returns-in_err-record_of : goal.returns-in_err-record_of
@@ -19,16 +19,16 @@ pub returns-in_err-first : goal.returns-in_err-first
 returns-in_err-first c =
     let a = c.args in
     let p = err_from_is_err_and c.from_residual-in_err-first.result c.from_residual-in_err-first.ensures.1 in
-    rw (p.1, p.2) (made pop (lent a.stream.now a.room.now a.opens.now) c.in_ok-record_of.ensures.record event_told c.pop-given.ensures c.in_err-first.was refl)
+    rw (p.1, p.2) (made_by pop (lent a.stream.now a.room.now a.opens.now) c.in_ok-record_of.ensures.record event_told c.pop-given.ensures c.in_err-first.was refl)
 
 pub returns-then-is_some : goal.returns-then-is_some
 returns-then-is_some c =
     let a = c.args in
-    made pop (lent a.stream.now a.room.now a.opens.now) c.in_ok-record_of.ensures.record event_told c.pop-given.ensures c.in_ok-first.was
+    made_by pop (lent a.stream.now a.room.now a.opens.now) c.in_ok-record_of.ensures.record event_told c.pop-given.ensures c.in_ok-first.was
     (some_left c.in_ok-first.first _ (search rules) c.store_popped.ensures)
 
 pub returns-else-is_some : goal.returns-else-is_some
 returns-else-is_some c =
     let a = c.args in
-    made pop (lent a.stream.now a.room.now a.opens.now) c.in_ok-record_of.ensures.record event_told c.pop-given.ensures c.in_ok-first.was
+    made_by pop (lent a.stream.now a.room.now a.opens.now) c.in_ok-record_of.ensures.record event_told c.pop-given.ensures c.in_ok-first.was
     (none_left c.in_ok-first.first _ _ (search rules))
