@@ -1,4 +1,4 @@
-// Comments: where the one at a place ends.
+// Comments: where the one at a place ends. Where there is none that is the place itself: the clauses' longest match has no byte there.
 #![tactic(auto)]
 
 ghost use Rattle.std.specs.Prelude.{◌+◌, ◌≡◌, drop};

@@ -7,7 +7,7 @@ ghost use Rattle.patterns.specs.Walk.{prefix};
 ghost use Rattle.places.specs.Places.{Has};
 ghost use Rattle.places.specs.Signs.{Byte};
 
-// The byte at a place, or 0 past the end.
+// The byte at a place, or 0 past the end, as the definitions' `get_or` has it: no rule starts with a 0.
 pub fn byte_at(src: &[u8], at: usize) -> u8
     ensures { Byte src.now at result }
 {

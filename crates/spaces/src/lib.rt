@@ -1,4 +1,4 @@
-// White space: runs of blanks, and text that goes on up to white space.
+// White space: runs of blanks, and text that goes on up to white space. A run of no character ends where it starts, as in the clauses.
 #![tactic(auto)]
 
 ghost use Rattle.std.specs.Prelude.{◌+◌, ◌≡◌, drop};

@@ -1,4 +1,5 @@
-// Strings and regexps: where the one at a place ends.
+// Strings and regexps: where the one at a place ends. Where there is none that is the place itself: the clauses' longest match has no
+// byte there.
 #![tactic(auto)]
 
 ghost use Rattle.std.specs.Prelude.{◌+◌, ◌<◌, ◌≤◌, ◌≡◌, length, get_or, drop};

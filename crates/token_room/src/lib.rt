@@ -1,5 +1,6 @@
 // The lent room: token i stands as kind, start, end in slot i mod W, W being the number of slots. A slot that is there is required by the
-// one function that writes it and the one that reads it, and there is one of each.
+// one function that writes it and the one that reads it, and there is one of each. event_room has the like for its own slots; what is the
+// same of both, the laws of what stands in slots, is said once, in rooms.
 #![tactic(auto)]
 
 ghost use Rattle.std.specs.Prelude.{◌≡◌, ◌+◌, ◌*◌, ◌≤◌, ◌<◌, length};

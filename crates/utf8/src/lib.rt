@@ -25,8 +25,8 @@ pub fn decode_at(src: &[u8], at: usize) -> Option<Char>
     }
 }
 
-// The end of the run at `at` of characters that `fits` allows, or `at` where there is none. A character has one to four bytes, so no
-// iterator steps by it.
+// The end of the run at `at` of characters that `fits` allows, or `at` where there is none: the clause's run has no byte there. A
+// character has one to four bytes, so no iterator steps by it.
 pub fn run_end<F: Fn(u32) -> bool>(src: &[u8], at: usize, fits: F) -> usize
     requires { F.IsAlwaysCallable fits }
     ensures { (f : Class) → Decided f (F.post fits) → result ≡ run_end f src.now at }
