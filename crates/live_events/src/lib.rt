@@ -4,7 +4,8 @@
 #![tactic(auto)]
 
 ghost use Rattle.std.specs.Prelude.{◌≡◌, length};
-ghost use Rattle.event_record.specs.Record.{push_token, push_error, begin as begin-node, end as end-node, end_with_error, bookmark as set-bookmark, truncate as truncate-to, remove_bookmark, pop as pop-first, reply};
+ghost use Rattle.event_record.specs.Record.{push_token, push_error, begin as begin-node, end as end-node, end_with_error};
+ghost use Rattle.event_record.specs.Record.{bookmark as set-bookmark, truncate as truncate-to, remove_bookmark, pop as pop-first, reply};
 ghost use Rattle.event_room.specs.Room.{slots_in};
 ghost use Rattle.events.specs.Stream.{fresh, done_told, position_told, event_told};
 ghost use Rattle.stream_numbers.specs.Numbers.{numbers_of};

@@ -4,7 +4,8 @@
 
 ghost use Rattle.std.specs.Prelude.{◌≡◌, true, false, IfOk, IfErr};
 ghost use Rattle.refusals.specs.declared.Refusal.TheVariants.{NotAsOpened};
-ghost use Rattle.stream_numbers.specs.Numbers.{truth_number, stream_of, numbers_of, put_count, put_last, put_opened, put_bookmarks, put_popped, forged};
+ghost use Rattle.stream_numbers.specs.Numbers.{truth_number, stream_of, numbers_of, put_count};
+ghost use Rattle.stream_numbers.specs.Numbers.{put_last, put_opened, put_bookmarks, put_popped, forged};
 
 use event_record::Span;
 use events::Stream;
