@@ -1,26 +1,48 @@
 // White space: runs of blanks, and text that goes on up to white space. A run of no character ends where it starts, as in the clauses.
 #![tactic(auto)]
 
-ghost use Rattle.std.specs.Prelude.{◌+◌, ◌≡◌, drop};
+ghost use Rattle.std.specs.Prelude.{◌+◌, ◌≡◌, drop, not};
 ghost use Rattle.patterns.specs.Pattern.{longest};
 ghost use Rattle.tokens.specs.Unicode.{white};
 ghost use Rattle.tokens.specs.Tokens.{blank, blanks};
 ghost use Rattle.tokens.specs.Scan.{plain};
 
-use utf8::run_end;
+use utf8::{Chars, run_end};
 
 // The end of the blank run at `at`, or `at` where there is none.
 pub fn blanks(src: &[u8], at: usize) -> usize
     ensures { result ≡ at + longest blanks (drop at src.now) }
 {
-    run_end(src, at, is_blank)
+    run_end::<BlankChars>(src, at)
 }
 
 // The end of the well-formed text at `at` up to the first White_Space character.
 pub fn plain_text(src: &[u8], at: usize) -> usize
     ensures { result ≡ at + longest plain (drop at src.now) }
 {
-    run_end(src, at, |v| !is_white(v))
+    run_end::<PlainChars>(src, at)
+}
+
+// The characters of a blank run.
+struct BlankChars;
+
+impl Chars for BlankChars {
+    ghost class = { blank };
+
+    fn has(v: u32) -> bool {
+        is_blank(v)
+    }
+}
+
+// The characters that are no White_Space.
+struct PlainChars;
+
+impl Chars for PlainChars {
+    ghost class = { λ v. not (white v) };
+
+    fn has(v: u32) -> bool {
+        !is_white(v)
+    }
 }
 
 // Whether `v` may stand in a blank run. Not every White_Space character may: U+0085 and U+3000 are no blanks.

@@ -4,7 +4,7 @@
 ghost use Rattle.std.specs.Prelude.{◌<◌, ◌≡◌, drop, Some};
 ghost use Rattle.patterns.specs.Utf8.{Class, lead, longer, finish, decode};
 ghost use Rattle.utf8.specs.Rest.{Bounded};
-ghost use Rattle.utf8.specs.Runs.{Decided, run_end};
+ghost use Rattle.utf8.specs.Runs.{run_end};
 
 use patterns::{Char, Lead};
 
@@ -25,24 +25,33 @@ pub fn decode_at(src: &[u8], at: usize) -> Option<Char>
     }
 }
 
-// The end of the run at `at` of characters that `fits` allows, or `at` where there is none: the clause's run has no byte there. A
-// character has one to four bytes, so no iterator steps by it.
-pub fn run_end<F: Fn(u32) -> bool>(src: &[u8], at: usize, fits: F) -> usize
-    requires { F.IsAlwaysCallable fits }
-    ensures { (f : Class) → Decided f (F.post fits) → result ≡ run_end f src.now at }
+// A class of characters, as a type: which characters are in it, and the test that says so. No value of such a type is needed.
+pub trait Chars {
+    // The class that the contracts speak of.
+    ghost class: { Class };
+
+    // Whether a character of the value `v` is in the class.
+    fn has(v: u32) -> bool
+        ensures { result ≡ class v };
+}
+
+// The end of the run of characters of a class at `at`, or `at` where there is none: the clause's run has no byte there. A character has
+// one to four bytes, so no iterator steps by it.
+pub fn run_end<C: Chars>(src: &[u8], at: usize) -> usize
+    ensures { result ≡ run_end C.class src.now at }
 {
     let mut end = at;
     while let Some(&b) = src.get(end) {
         // An ASCII character needs no decoding.
         if b < 0x80 {
-            if !fits(u32::from(b)) {
+            if !C::has(u32::from(b)) {
                 return end;
             }
             end += 1;
             continue;
         }
         match decode_at(src, end) {
-            Some(c) if fits(c.value) => end += c.len,
+            Some(c) if C::has(c.value) => end += c.len,
             _ => return end,
         }
     }

@@ -9,12 +9,24 @@ ghost use Rattle.tokens.specs.Unicode.{in_runs, digits_16};
 ghost use Rattle.tokens.specs.Tokens.{tail, word_part};
 
 pub use keywords::keyword;
+use utf8::{Chars, run_end};
 
 // The end of the word tail at `at`: any run of ASCII letters, `_` and decimal digits.
 pub fn word_tail(src: &[u8], at: usize) -> usize
     ensures { result ≡ at + longest (tail digits_16) (drop at src.now) }
 {
-    utf8::run_end(src, at, is_part)
+    run_end::<WordChars>(src, at)
+}
+
+// The characters of a word.
+struct WordChars;
+
+impl Chars for WordChars {
+    ghost class = { word_part digits_16 };
+
+    fn has(v: u32) -> bool {
+        is_part(v)
+    }
 }
 
 // Whether `v` may stand in a word: in ASCII a letter, a digit or `_`, beyond it a decimal digit.
