@@ -1,6 +1,6 @@
 -- The cases of opening a reader: ready or refused. Those of a scan: refused, or the definition's scan, which is at the end or finds a
 -- token; the tests of 24 come first. And no two answers are told alike, so that the promises leave no choice. Assumes nothing.
-use Rattle.std.specs.Prelude.{ℕ, ◌≤◌, ◌<◌, ◌≡◌, refl, List, length, leb, Some, None, Result, Ok, Err}
+use Rattle.std.specs.Prelude.{ℕ, ◌≤◌, ◌<◌, ◌≡◌, refl, List, length, leb, Option, Some, None, Result, Ok, Err}
 use Rattle.std.proofs.Common.{sym, ap, ◌∙◌, arith, leb-true, leb-false, le-leb}
 use Rattle.std.proofs.lemmas.Bool.{lt-leb}
 use Rattle.patterns.proofs.Bools.{by_test}
@@ -8,12 +8,13 @@ use Rattle.patterns.specs.Determined.{Once}
 use Rattle.patterns.proofs.Determined.{once}
 use Rattle.refusals.specs.declared.Refusal.{Refusal}
 use Rattle.refusals.specs.RefusalLaws.{read_back}
+use Rattle.tokens.specs.declared.Token.{Token}
 use Rattle.tokens.specs.Tokens.{tables_1}
 use Rattle.tokens.specs.Scan.{scan}
 use Rattle.tokens.proofs.ScanLaws.{scan_end}
 use Rattle.reader.specs.declared.Reader.{Reader}
-use Rattle.reader.specs.Reading.{source_limit, ready, end, refused, start, open_of, moved, scan_of, opened_told, Scan, scan_told, entered}
-use Rattle.reader.specs.ReaderLaws.{opened_read, scan_read}
+use Rattle.reader.specs.Reading.{source_limit, ready, end, refused, start, open_of, moved, scan_of, opened_told, Scan, scan_told, advanced, entered}
+use Rattle.reader.specs.ReaderLaws.{opened_read, scan_read, advanced_read}
 
 module _ (s : List ℕ) where
   -- ready: within the limit, at the start
@@ -63,3 +64,11 @@ scan_same (Err n) = ap (λ q. Err q) (read_back n)
 
 pub scan_once : Once scan_told
 scan_once = once scan_told scan_read scan_same
+
+-- Without a token the reader is the one before, as an advance promises.
+pub advanced_same : (before : Reader) (o : Option Token) (q : Reader) → (o ≡ None → q ≡ before) → ◌≡◌ {A = Option Token × Reader} (advanced_read before (advanced o q)) (o, q)
+advanced_same before None q h = ap (λ r. (None, r)) (sym (h refl))
+advanced_same before (Some x) q h = refl
+
+pub advanced_once : (before : Reader) {o p : Option Token} {q r : Reader} → (o ≡ None → q ≡ before) → (p ≡ None → r ≡ before) → advanced o q ≡ advanced p r → ◌≡◌ {A = Option Token × Reader} (o, q) (p, r)
+advanced_once before h k e = sym (advanced_same before _ _ h) ∙ ap (advanced_read before) e ∙ advanced_same before _ _ k

@@ -1,7 +1,8 @@
 -- The answers of opening and of a scan, read back from what they are told by. Assumes nothing.
-use Rattle.std.specs.Prelude.{Some, None, Result, Ok, Err}
+use Rattle.std.specs.Prelude.{Option, Some, None, Result, Ok, Err}
 use Rattle.refusals.specs.declared.Refusal.{Refusal}
 use Rattle.refusals.specs.RefusalLaws.{read_refusal}
+use Rattle.tokens.specs.declared.Token.{Token}
 use Rattle.reader.specs.declared.Reader.{Reader}
 use Rattle.reader.specs.Reading.{Answer, ready, end, found, refused, start, Scan}
 
@@ -17,3 +18,10 @@ scan_read (ready r) = Ok None
 scan_read end = Ok None
 scan_read (found x r) = Ok (Some (x, r))
 scan_read (refused n) = Err (read_refusal n)
+
+-- The answer of an advance, and the reader that it leaves; without a token that is the one before.
+abbrev pub advanced_read : Reader → Answer → Option Token × Reader
+advanced_read before (ready r) = (None, before)
+advanced_read before end = (None, before)
+advanced_read before (found x r) = (Some x, r)
+advanced_read before (refused n) = (None, before)

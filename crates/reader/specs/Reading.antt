@@ -55,6 +55,11 @@ scan_told (Ok None) = end
 scan_told (Ok (Some (x, r))) = found x r
 scan_told (Err n) = refused (number_of n)
 
+-- what an advance over the tokens that are left answers, with the reader that it leaves
+abbrev pub advanced : Option Token → Reader → Answer
+advanced None r = end
+advanced (Some x) r = found x r
+
 -- A switch acts at the place where the reader is.
 abbrev pub entered : Mode → Reader → Reader
 entered m r = record { place = r.place; mode = m }

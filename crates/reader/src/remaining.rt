@@ -2,7 +2,7 @@
 ghost use Rattle.std.specs.Prelude.{◌≡◌, true, false, MatchOption, MatchResult};
 ghost use Rattle.std.specs.Iterator.{YieldsFirst, item_count};
 ghost use Rattle.refusals.specs.declared.Refusal.TheVariants.{NotAsOpened};
-ghost use Rattle.reader.specs.Reading.{sound};
+ghost use Rattle.reader.specs.Reading.{sound, scan_of, advanced};
 ghost use Rattle.reader.specs.Following.{Sound, Onward, Ends, rest};
 
 use crate::Reader;
@@ -33,14 +33,20 @@ impl Reader {
 }
 
 impl<'a> Tokens<'a> {
-    // The next token, as `next` gives it, with a promise that says besides where the reader then is.
+    // The next token, which is what a scan of the source finds, and none at its end. (`next` gives the same, but does not say where the
+    // reader then is.)
     #[inline(always)]
     pub fn advance(&mut self) -> Option<Token>
-        ensures { (self.new.src ≡ self.old.src) × MatchOption result
+        ensures { (self.new.src ≡ self.old.src)
+            × (advanced result self.new.reader ≡ scan_of self.old.src.now self.old.reader)
+            × MatchOption result
             (Ends self.old.src.now self.old.reader × (self.new.reader ≡ self.old.reader))
             (λ x. Onward self.old.src.now self.old.reader x self.new.reader) }
     {
-        let (token, moved) = self.reader.found(self.src)?;
+        // its reader can scan, so a scan is not refused
+        let Ok(Some((token, moved))) = self.reader.scan(self.src) else {
+            return None;
+        };
         self.reader = moved;
         Some(token)
     }

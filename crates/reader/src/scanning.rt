@@ -9,6 +9,7 @@ use tokens::{Offset, Token};
 
 impl Reader {
     // The token at the reader's place, and the reader moved to its end; none where the source is at its end.
+    #[inline(always)]
     pub fn scan(self, src: &[u8]) -> Result<Option<(Token, Reader)>, Refusal>
         ensures { scan_told result ≡ scan_of src.now self }
     {
