@@ -1,4 +1,6 @@
 // The numbers of a record.
+ghost use Rattle.std.specs.Prelude.{◌≤◌, length, IfOk};
+
 use std::alloc::{AllocError, Global};
 
 // The most numbers that are read in one go: those of 1,024 answers, or of the tokens of every recorded source.
@@ -11,8 +13,10 @@ pub(crate) struct Numbers {
     pub(crate) end: usize,
 }
 
-// Reads the numbers at the place, each behind a space.
-pub(crate) fn read(alloc: Global, line: &[u8], from: usize) -> Result<Numbers, AllocError> {
+// Reads the numbers at the place, each behind a space: no more than the most.
+pub(crate) fn read(alloc: Global, line: &[u8], from: usize) -> Result<Numbers, AllocError>
+    ensures { IfOk result (λ numbers. length numbers.all ≤ 4096) }
+{
     let mut all = Vec::new(alloc);
     let mut end = from;
     for _ in 0..MOST_NUMBERS {
