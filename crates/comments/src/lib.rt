@@ -3,8 +3,11 @@
 
 ghost use Rattle.std.specs.Prelude.{◌+◌, ◌≡◌, drop};
 ghost use Rattle.patterns.specs.Pattern.{byte, char, longest};
+ghost use Rattle.patterns.specs.Utf8.{decode};
 ghost use Rattle.tokens.specs.Tokens.{block_comment, line_comment};
 ghost use Rattle.comments.specs.Comments.{unit};
+
+use patterns::Char;
 
 // The end of the line comment at `at`, or `at` where there is none.
 pub fn line_comment(src: &[u8], at: usize) -> usize
@@ -31,7 +34,7 @@ fn block(src: &[u8], at: usize, chars: bool) -> usize
     while i < src.len() {
         let b = src[i];
         if chars && 0x80 <= b {
-            match utf8::decode_at(src, i) {
+            match decode_at(src, i) {
                 Some(c) => {
                     i += c.len;
                     star = false;
@@ -49,6 +52,15 @@ fn block(src: &[u8], at: usize, chars: bool) -> usize
         }
     }
     at
+}
+
+// What stands at a place beyond ASCII. Comments are ASCII for the most part: as cold code out of line it leaves the loop above tight.
+#[cold]
+#[inline(never)]
+fn decode_at(src: &[u8], at: usize) -> Option<Char>
+    ensures { result ≡ decode (drop at src.now) }
+{
+    utf8::decode_at(src, at)
 }
 
 // The end of the block comment at `at`, or `at` where there is none.

@@ -56,6 +56,25 @@ places_all (suc k) n e =
     let m : n % 10 ≡ n = omega arith in rw (z, m, decimal_one n h))
     (λ t. let h : 10 ≤ n = ltb-false n 10 t in rw (decimal_more n h, places_all k (n / 10) (omega (arith, length_more n h))))
 
+-- where a number has more than one digit, its tenth part has one fewer
+pub tenth_shorter : (i n : ℕ) → i ≡ length (decimal n) → 1 < i → i - 1 ≡ length (decimal (n / 10))
+tenth_shorter i n e h =
+    by_test (ltb n 10) (λ t. absurd (omega (arith, length_one n (ltb-true n 10 t))))
+    (λ t. omega (arith, length_more n (ltb-false n 10 t)))
+
+-- a number of one digit is below ten
+pub one_below : (i n : ℕ) → i ≡ length (decimal n) → i ≤ 1 → n < 10
+one_below i n e h =
+    by_test (ltb n 10) (λ t. ltb-true n 10 t)
+    (λ t. absurd (omega (arith, length_more n (ltb-false n 10 t), decimal_some (n / 10))))
+
+-- and it is put as the first byte
+pub first_put : (i n : ℕ) (out : List ℕ) → i ≡ length (decimal n) → i ≤ 1 → 0 < length out → set out 0 (digit n) ≡ places i n ++ drop i out
+first_put i n [] e h p = absurd (omega arith)
+first_put i n (b ∷ out) e h p =
+    let z : i ≡ 1 = omega (arith, decimal_some n) in
+    let m : n % 10 ≡ n = omega (arith, one_below i n e h) in rw (z, m) refl
+
 -- a digit more is put in front of those that are
 pub places_step : (i n : ℕ) (out : List ℕ) → 0 < i → i ≤ length out
     → places (i - 1) (n / 10) ++ drop (i - 1) (set out (i - 1) (digit (n % 10))) ≡ places i n ++ drop i out

@@ -107,8 +107,11 @@ fn put_number(out: &mut [u8], n: u32)
     ensures { out.new ≡ decimal n }
 {
     let mut left = n;
-    for i in (0..out.len()).rev() {
+    for i in (1..out.len()).rev() {
         out[i] = b'0' + (left % 10) as u8;
         left /= 10;
     }
+
+    // the first digit is what is left: no division for it
+    out[0] = b'0' + left as u8;
 }
