@@ -38,11 +38,12 @@ pub enum Refusal {
     NotAsOpened,
 }
 
-// What a call gives: its answer, and the state after it. A refused call gives back the state as it was.
+// What a call gives: its answer, and the state after it. A refused call gives back the state as it was. The state stands first: with a gap
+// before it, behind a short answer, the library for C would need memset beside memcpy.
 #[derive(Clone, Copy)]
 pub struct Given<T, S> {
-    pub answer: Result<T, Refusal>,
     pub after: S,
+    pub answer: Result<T, Refusal>,
 }
 
 impl<T, S> Given<T, S> {

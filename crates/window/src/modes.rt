@@ -36,7 +36,9 @@ impl Window {
         self.switch(src.len(), room.len(), in_jump_mode)
     }
 
-    // Tests the window, and goes on with another reader behind the last token fetched.
+    // Tests the window, and goes on with another reader behind the last token fetched. Inlined, for what it gives is large: called, the
+    // library for C would need memset and memmove beside memcpy.
+    #[inline(always)]
     fn switch(self, bytes: usize, len: usize, reader: Reader) -> Given<()>
         ensures { result ≡ switch bytes len reader self }
     {
