@@ -39,12 +39,12 @@ module _ {M : Type 1} {𝓤 : Ura M} {𝓛 : Logic 𝓤} {K : Type 0} {Γ : List
   pub stored : K → {lz : ℕ} (F : Answers) (r : Lent) (h : Stream) (x : F.given.Denot) (w : Val) (g b : ℕ) → get_or ((F.ty, l₀) ∷ (ref_ty, l₁) ∷ E) g (no_local 𝓤 H) ≡ (given_ty F, l) → get_or ((F.ty, l₀) ∷ (ref_ty, l₁) ∷ E) b (no_local 𝓤 H) ≡ (T'.mir, lz)
       → (Is F.given x (w ∷ []) → Seq K 𝓛 (closed r (F.stream_of x) (cell F.ty l₀ (F.val (F.answer_of x)) ∷ cell ref_ty l₁ (ref_val r) ∷ cell (given_ty F) l (given_val F x) ∷ cell T'.mir lz (stream_val (F.stream_of x)) ∷ Γ)) (runs C Λ ((F.ty, l₀) ∷ (ref_ty, l₁) ∷ E) rest Q))
       → Seq K 𝓛 (‵ (F.given.own_val x (w ∷ [])) ∷ opened r h (room F.ty l₀ ∷ cell ref_ty l₁ (ref_val r) ∷ room (given_ty F) l ∷ room T'.mir lz ∷ Γ))
-      (lands C Λ ((F.ty, l₀) ∷ (ref_ty, l₁) ∷ E) (place g []) w (seq (assign (place b []) (rv_opd (copy (place g (field 1 ∷ []))))) (seq (assign (place 1 (deref T'.mir ∷ [])) (rv_opd (copy (place b [])))) (seq (assign (place 0 []) (rv_opd (copy (place g (field 0 ∷ []))))) rest))) Q)
+      (lands C Λ ((F.ty, l₀) ∷ (ref_ty, l₁) ∷ E) (place g []) w (seq (assign (place b []) (rv_opd (copy (place g (field 0 ∷ []))))) (seq (assign (place 1 (deref T'.mir ∷ [])) (rv_opd (copy (place b [])))) (seq (assign (place 0 []) (rv_opd (copy (place g (field 1 ∷ []))))) rest))) Q)
   stored t {lz} F r h x w g b e e2 k =
       script (peeks ! F.given (Is F.given) (shows 𝓛 F.given) x (w ∷ []) (λ is. let holds = F.holds x w is in
       land ! (at_local ! e (stop !)) (init ! 8 refl (F.given_typed 𝓛 x w is)) $ rewrite ! 8 (λ (u : Val). cell (given_ty F) l u) (F.tells x w is) refl $
-      assigns ! (of_opd ! (load ! (at_local ! e (fld ! refl (stop !))) (look_in ! 8 (sub ! 1 refl (whole !))))) (at_local ! e2 (stop !)) (init ! 9 refl ((LL.lawful T.the_type T'.the_laws 𝓛).typed (F.stream_of x) _ holds.1).0) $
+      assigns ! (of_opd ! (load ! (at_local ! e (fld ! refl (stop !))) (look_in ! 8 (sub ! 0 refl (whole !))))) (at_local ! e2 (stop !)) (init ! 9 refl ((LL.lawful T.the_type T'.the_laws 𝓛).typed (F.stream_of x) _ holds.1).0) $
       assigns ! (of_opd ! (load ! (at_local ! e2 (stop !)) (look ! 9 refl))) (from ! (hop ! (look ! 7 refl) (stop !))) (store_raw ! 1 refl ((LL.lawful T.the_type T'.the_laws 𝓛).typed (F.stream_of x) _ holds.1).0) $
-      assigns ! (of_opd ! (load ! (at_local ! e (fld ! refl (stop !))) (look_in ! 8 (sub ! 0 refl (whole !))))) (from ! (stop !)) (init ! 6 refl (F.answer_typed 𝓛 (F.answer_of x) holds.0)) $
+      assigns ! (of_opd ! (load ! (at_local ! e (fld ! refl (stop !))) (look_in ! 8 (sub ! 1 refl (whole !))))) (from ! (stop !)) (init ! 6 refl (F.answer_typed 𝓛 (F.answer_of x) holds.0)) $
       drop ! $ move ! (1 ∷ []) $ drop ! $ owned ! T.the_row (Is T.the_row) (LL.makes T.the_type T'.the_plain 𝓛) (F.stream_of x) _ holds.1 $
       move ! (1 ∷ 0 ∷ 2 ∷ 3 ∷ 4 ∷ []) $ closes ! tt T.the_row (F.stream_of x) (stream_val (F.stream_of x) ∷ []) r.block r.offset $ goes_on (k is)))

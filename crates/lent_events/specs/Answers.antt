@@ -56,9 +56,9 @@ pub record Answers : Type 2 where
   pub told : answer.Denot → Answer
   pub answer_of : given.Denot → answer.Denot
   pub stream_of : given.Denot → Stream
-  pub tells : (r : given.Denot) (w : Val) → Is given r (w ∷ []) → w ≡ vstruct (vcons (val (answer_of r)) (vcons (stream_val (stream_of r)) vnil))
+  pub tells : (r : given.Denot) (w : Val) → Is given r (w ∷ []) → w ≡ vstruct (vcons (stream_val (stream_of r)) (vcons (val (answer_of r)) vnil))
   pub holds : (r : given.Denot) (w : Val) → Is given r (w ∷ []) → Is answer (answer_of r) (val (answer_of r) ∷ []) × Is T.the_row (stream_of r) (stream_val (stream_of r) ∷ [])
-  pub given_typed : {M : Type 1} {𝓤 : Ura M} (𝓛 : Logic 𝓤) → (r : given.Denot) (w : Val) → Is given r (w ∷ []) → Holds (has_ty (ty_struct name (tcons ty (tcons T'.mir tnil))) w) × WT w
+  pub given_typed : {M : Type 1} {𝓤 : Ura M} (𝓛 : Logic 𝓤) → (r : given.Denot) (w : Val) → Is given r (w ∷ []) → Holds (has_ty (ty_struct name (tcons T'.mir (tcons ty tnil))) w) × WT w
   pub answer_typed : {M : Type 1} {𝓤 : Ura M} (𝓛 : Logic 𝓤) → (a : answer.Denot) → Is answer a (val a ∷ []) → Holds (has_ty ty (val a)) × WT (val a)
   pub makes : {M : Type 1} {𝓤 : Ura M} (𝓛 : Logic 𝓤) → Makes 𝓛 answer (Is answer)
 
@@ -68,10 +68,10 @@ Claim F c a after before = reply (F.told a) after ≡ step c before
 
 -- the struct's type in MIR, and its machine value
 abbrev pub given_ty : Answers → Ty
-given_ty F = ty_struct F.name (tcons F.ty (tcons T'.mir tnil))
+given_ty F = ty_struct F.name (tcons T'.mir (tcons F.ty tnil))
 
 abbrev pub given_val : (F : Answers) → F.given.Denot → Val
-given_val F r = vstruct (vcons (F.val (F.answer_of r)) (vcons (stream_val (F.stream_of r)) vnil))
+given_val F r = vstruct (vcons (stream_val (F.stream_of r)) (vcons (F.val (F.answer_of r)) vnil))
 
 -- the family of a call that gives a value of type V: what is known of V as a type argument, its machine value, and that it is plain
 module _ (V : RattleType) (L : Laws V) (t : Told V) (plain : IsPlain V) (told : Result V.Denot Refusal → Answer) where
@@ -98,7 +98,7 @@ module _ (V : RattleType) (L : Laws V) (t : Told V) (plain : IsPlain V) (told : 
     answer_of = λ r. r.answer;
     stream_of = λ r. r.after;
     tells = λ r w is. ap only (LL.tells struct laws r (w ∷ []) is);
-    holds = λ r w is. ((LL.owed struct laws r (w ∷ []) is).0, (LL.owed struct laws r (w ∷ []) is).1.0);
+    holds = λ r w is. ((LL.owed struct laws r (w ∷ []) is).1.0, (LL.owed struct laws r (w ∷ []) is).0);
     given_typed = λ 𝓛 r w is. ((LL.lawful struct laws 𝓛).typed r (w ∷ []) is).0;
     answer_typed = λ 𝓛 a is. ((EL.lawful answer_type answer_laws 𝓛 tt).typed a (EL.val answer_type answer_laws a ∷ []) is).0;
     makes = EL.makes answer_type (R'.the_plain V N.the_row plain N'.the_row_plain);

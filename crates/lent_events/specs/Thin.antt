@@ -32,7 +32,7 @@ shape F ks n = record {
   locals = local F.ty value_local ∷ local ref_ty value_local ∷ (locals (param_types ks) ++ (local T'.mir value_local ∷ local (given_ty F) value_local ∷ (locals (fresh_types ks) ++ (local T'.mir value_local ∷ []))));
   body = seq (assign (place (before ks) []) (rv_opd (copy (place 1 (deref T'.mir ∷ []))))) (lends 2 (fresh ks) ks
       (seq (call n (copy (place (before ks) []) ∷ operands 2 (fresh ks) ks) (place (given ks) []))
-      (seq (assign (place (back ks) []) (rv_opd (copy (place (given ks) (field 1 ∷ [])))))
+      (seq (assign (place (back ks) []) (rv_opd (copy (place (given ks) (field 0 ∷ [])))))
       (seq (assign (place 1 (deref T'.mir ∷ [])) (rv_opd (copy (place (back ks) []))))
-      (seq (assign (place 0 []) (rv_opd (copy (place (given ks) (field 0 ∷ []))))) return)))));
+      (seq (assign (place 0 []) (rv_opd (copy (place (given ks) (field 1 ∷ []))))) return)))));
 }
