@@ -15,7 +15,7 @@ pub(crate) struct Numbers {
 
 // Reads the numbers at the place, each behind a space: no more than the most.
 pub(crate) fn read(alloc: Global, line: &[u8], from: usize) -> Result<Numbers, AllocError>
-    ensures { IfOk result (λ numbers. length numbers.all ≤ 4096) }
+    ensures { IfOk result (λ numbers. length numbers.all.items ≤ 4096) }
 {
     let mut all = Vec::new(alloc);
     let mut end = from;

@@ -3,4 +3,4 @@ use Rattle.std.proofs.Common.{◌≤◌, length}
 use Rattle.recorded.proofs.record.read.Given as goal
 
 abbrev pub invariant-loop : goal.invariant-loop
-invariant-loop l = length l.all ≤ l.counter
+invariant-loop l = length l.all.items ≤ l.counter
