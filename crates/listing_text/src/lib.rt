@@ -60,17 +60,17 @@ fn put_lines(out: &mut [u8], tokens: Tokens<'_>) -> Lines
     Lines { count, len }
 }
 
-// A token's line, at the front of `out`.
+// A token's line, at the front of `out`. Each number is put before the next one is measured: less has to be kept at a time.
 #[tactic(auto, using(crate::proofs::Numbers::length_line))]
 fn put_line(out: &mut [u8], token: Token) -> usize
     requires { length (line token) ≤ length out.old }
     ensures { Wrote 0 (line token) out.old out.new result }
 {
     let (kind, span) = out.split_at_mut(field_len(token.kind));
-    let (start, behind) = span.split_at_mut(field_len(token.start.0));
-    let (end, _) = behind.split_at_mut(field_len(token.end.0));
     put_field(kind, token.kind, b' ');
+    let (start, behind) = span.split_at_mut(field_len(token.start.0));
     put_field(start, token.start.0, b' ');
+    let (end, _) = behind.split_at_mut(field_len(token.end.0));
     put_field(end, token.end.0, b'\n');
     kind.len() + start.len() + end.len()
 }
@@ -100,16 +100,18 @@ fn put_field(out: &mut [u8], n: u32, b: u8)
 }
 
 // The digits of a number, from the last one to the first; by index, since of what is written by `iter_mut` a proof knows the length alone.
-// Not put where it is called: three copies of the loop cost a tenth of the time of a listing of short tokens.
-#[inline(never)]
+// Put where it is called: three calls for each line cost a tenth of the time of a listing of short tokens. The remainder is taken by hand:
+// with `left % 10` the loop is of more instructions.
+#[inline(always)]
 fn put_number(out: &mut [u8], n: u32)
     requires { length out.old ≡ length (decimal n) }
     ensures { out.new ≡ decimal n }
 {
     let mut left = n;
     for i in (1..out.len()).rev() {
-        out[i] = b'0' + (left % 10) as u8;
-        left /= 10;
+        let tenth = left / 10;
+        out[i] = b'0' + (left - 10 * tenth) as u8;
+        left = tenth;
     }
 
     // the first digit is what is left: no division for it

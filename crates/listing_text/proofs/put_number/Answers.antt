@@ -1,4 +1,4 @@
-use Rattle.std.proofs.Common.{◌≤◌, ◌<◌, ◌∙◌, length, append-nil, arith}
+use Rattle.std.proofs.Common.{◌-◌, ◌*◌, ◌/◌, ◌%◌, ◌≡◌, ◌≤◌, ◌<◌, ◌∙◌, length, append-nil, arith}
 use Rattle.std.proofs.Math.Seq.{drop-length}
 use Rattle.listing_text.proofs.Numbers.{decimal_some, places, places_all, places_step, tenth_shorter, one_below, first_put}
 use Rattle.listing_text.proofs.put_number.Goals as goal
@@ -11,7 +11,9 @@ loop-i-init c =
 pub loop-i-preserved : goal.loop-i-preserved
 loop-i-preserved c =
     let l = c.loop-i in
-    (tenth_shorter l.i l.left l.invariant.0 c.loop-i-test.true, places_step l.i l.left l.out (omega (arith, c.loop-i-test.true)) (rw l.auto.out l.auto.i) ∙ l.invariant.1)
+    let e : l.left - 10 * (l.left / 10) ≡ l.left % 10 = omega arith in
+    let step = places_step l.i l.left l.out (omega (arith, c.loop-i-test.true)) (rw l.auto.out l.auto.i) in
+    (tenth_shorter l.i l.left l.invariant.0 c.loop-i-test.true, rw e (step ∙ l.invariant.1))
 
 pub overflow_cast-out-2 : goal.overflow_cast-out-2
 overflow_cast-out-2 c =
