@@ -100,8 +100,8 @@ fn put_field(out: &mut [u8], n: u32, b: u8)
 }
 
 // The digits of a number, from the last one to the first; by index, since of what is written by `iter_mut` a proof knows the length alone.
-// Put where it is called: three calls for each line cost a tenth of the time of a listing of short tokens. The remainder is taken by hand:
-// with `left % 10` the loop is of more instructions.
+// Put where it is called: three calls for each line, and what is kept over them, take a tenth of the time of a listing of short tokens. The
+// remainder is taken by hand: with `left % 10` the loop is of more instructions.
 #[inline(always)]
 fn put_number(out: &mut [u8], n: u32)
     requires { length out.old ≡ length (decimal n) }
