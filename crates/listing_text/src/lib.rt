@@ -103,6 +103,7 @@ fn put_field(out: &mut [u8], n: u32, b: u8)
 // Put where it is called: three calls for each line, and what is kept over them, take a tenth of the time of a listing of short tokens. The
 // remainder is taken by hand: with `left % 10` the loop is of more instructions.
 #[inline(always)]
+#[tactic(auto, using(crate::proofs::Numbers::one_below, crate::proofs::Numbers::decimal_some))]
 fn put_number(out: &mut [u8], n: u32)
     requires { length out.old ≡ length (decimal n) }
     ensures { out.new ≡ decimal n }

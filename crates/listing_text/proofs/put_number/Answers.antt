@@ -1,6 +1,6 @@
 use Rattle.std.proofs.Common.{◌-◌, ◌*◌, ◌/◌, ◌%◌, ◌≡◌, ◌≤◌, ◌<◌, ◌∙◌, length, append-nil, arith}
 use Rattle.std.proofs.Math.Seq.{drop-length}
-use Rattle.listing_text.proofs.Numbers.{decimal_some, places, places_all, places_step, tenth_shorter, one_below, first_put}
+use Rattle.listing_text.proofs.Numbers.{decimal_some, places, places_all, places_step, tenth_shorter, first_put}
 use Rattle.listing_text.proofs.put_number.Goals as goal
 
 pub loop-i-init : goal.loop-i-init
@@ -14,21 +14,6 @@ loop-i-preserved c =
     let e : l.left - 10 * (l.left / 10) ≡ l.left % 10 = omega arith in
     let step = places_step l.i l.left l.out (omega (arith, c.loop-i-test.true)) (rw l.auto.out l.auto.i) in
     (tenth_shorter l.i l.left l.invariant.0 c.loop-i-test.true, rw e (step ∙ l.invariant.1))
-
-pub overflow_cast-out-2 : goal.overflow_cast-out-2
-overflow_cast-out-2 c =
-    let l = c.loop-i in
-    let one : l.i ≤ 1 = omega (arith, c.loop-i-test.false) in
-    omega (arith, one_below l.i l.left l.invariant.0 one)
-
-pub overflow_add-out-2 : goal.overflow_add-out-2
-overflow_add-out-2 c =
-    let l = c.loop-i in
-    let one : l.i ≤ 1 = omega (arith, c.loop-i-test.false) in
-    omega (arith, one_below l.i l.left l.invariant.0 one)
-
-pub bounds-out-0 : goal.bounds-out-0
-bounds-out-0 c = omega (arith, c.loop-i.auto.out, c.requires, decimal_some c.args.n)
 
 pub returns : goal.returns
 returns c =
