@@ -7,20 +7,20 @@ ghost use Rattle.tokens.specs.Unicode.{white};
 ghost use Rattle.tokens.specs.Tokens.{blank, blanks};
 ghost use Rattle.tokens.specs.Scan.{plain};
 
-use utf8::{Chars, run_end};
+use utf8::{Chars, run_end_of};
 
 // The end of the blank run at `at`, or `at` where there is none.
 pub fn blanks(src: &[u8], at: usize) -> usize
     ensures { result ≡ at + longest blanks (drop at src.now) }
 {
-    run_end::<BlankChars>(src, at)
+    run_end_of::<BlankChars>(src, at)
 }
 
 // The end of the well-formed text at `at` up to the first White_Space character.
 pub fn plain_text(src: &[u8], at: usize) -> usize
     ensures { result ≡ at + longest plain (drop at src.now) }
 {
-    run_end::<PlainChars>(src, at)
+    run_end_of::<PlainChars>(src, at)
 }
 
 // The characters of a blank run.

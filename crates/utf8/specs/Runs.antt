@@ -1,10 +1,10 @@
 -- Runs of characters of one class, as a scanning loop meets them: a character of the class, one outside it, a broken one, the end.
 -- A run goes on behind a character of the class as if it began there, since it may be empty. Assumes nothing.
-use Rattle.std.specs.Prelude.{ℕ, ◌+◌, ◌≤◌, ◌<◌, ◌≡◌, true, false, List, [], ◌∷◌, length, get_or, drop, ltb, None}
+use Rattle.std.specs.Prelude.{ℕ, ◌+◌, ◌≤◌, ◌<◌, ◌≡◌, Bool, true, false, List, [], ◌∷◌, length, get_or, drop, ltb, None}
 use Rattle.std.proofs.Math.Path.{refl}
 use Rattle.std.proofs.Common.{sym, ap, ◌∙◌, arith, length-drop, drop-cons}
 use borrow.Author.Tests.{le-leb, lt-ltb, ltb-true, ltb-false}
-use Rattle.patterns.specs.Utf8.{Class, decode, encode, whole}
+use Rattle.patterns.specs.Utf8.{Class, Scalar, decode, encode, whole}
 use Rattle.patterns.proofs.Bools.{by_test}
 use Rattle.patterns.specs.Utf8Laws.{Encoded}
 use Rattle.patterns.proofs.Utf8Laws.{decoded, decoded_size}
@@ -18,6 +18,10 @@ run f = star (char f)
 -- where the run at i ends
 abbrev pub run_end : Class → List ℕ → ℕ → ℕ
 run_end f s i = i + longest (run f) (drop i s)
+
+-- what is answered of each scalar value is whether it is in the class
+abbrev pub Decided : Class → (ℕ → Bool → Type 0) → Type 0
+Decided f answer = (v : ℕ) (r : Bool) → Scalar v → answer v r → r ≡ f v
 
 -- with one character at least it is as long
 pub plus_run : (f : Class) (s : List ℕ) → longest (run f) s ≡ longest (plus (char f)) s
@@ -51,6 +55,10 @@ module _ (s : List ℕ) (i : ℕ) (h : i < length s) where
   pub ascii : get_or s i 0 < 0x80 → decode (drop i s) ≡ whole (get_or s i 0) 1
   unfolding decode
   ascii l = rw (drop-cons s i 0, le-leb 0 (get_or s i 0) (omega arith), le-leb (get_or s i 0) 0x7F (omega arith))
+
+  -- the same of a byte that was read as b, and widened to v
+  pub alone : {v b : ℕ} → b ≡ get_or s i 0 → b < 0x80 → v ≡ b → decode (drop i s) ≡ whole v 1
+  alone e l p = ascii (omega arith) ∙ ap (λ (v : ℕ). whole v 1) (sym (p ∙ e))
 
   -- any other byte begins a character beyond ASCII
   pub beyond : {v n : ℕ} → decode (drop i s) ≡ whole v n → 0x80 ≤ get_or s i 0 → 0x80 ≤ v

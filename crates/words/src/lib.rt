@@ -9,13 +9,13 @@ ghost use Rattle.tokens.specs.Unicode.{in_runs, digits_16};
 ghost use Rattle.tokens.specs.Tokens.{tail, word_part};
 
 pub use keywords::keyword;
-use utf8::{Chars, run_end};
+use utf8::{Chars, run_end_of};
 
 // The end of the word tail at `at`: any run of ASCII letters, `_` and decimal digits.
 pub fn word_tail(src: &[u8], at: usize) -> usize
     ensures { result ≡ at + longest (tail digits_16) (drop at src.now) }
 {
-    run_end::<WordChars>(src, at)
+    run_end_of::<WordChars>(src, at)
 }
 
 // The characters of a word.

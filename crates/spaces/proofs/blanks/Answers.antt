@@ -6,4 +6,4 @@ use Rattle.tokens.specs.Tokens.{blank}
 use Rattle.spaces.proofs.blanks.Goals as goal
 
 pub returns : goal.returns
-returns c = c.run_end.ensures ∙ ap (c.args.at +◌) (plus_run blank (drop c.args.at c.args.src.now))
+returns c = c.run_end_of.ensures ∙ ap (c.args.at +◌) (plus_run blank (drop c.args.at c.args.src.now))

@@ -2,7 +2,7 @@
 -- Assumes nothing.
 use Rattle.std.proofs.Common.{◌-◌, ◌≡◌, length}
 use Rattle.utf8.specs.Runs.{run_end}
-use Rattle.utf8.proofs.run_end.Given as goal
+use Rattle.utf8.proofs.run_end_of.Given as goal
 
 abbrev pub invariant-loop-b : goal.invariant-loop-b
 invariant-loop-b g l = run_end g.C.Chars.class l.src l.end ≡ run_end g.C.Chars.class l.src l.at

@@ -1,22 +1,17 @@
-use Rattle.std.proofs.Common.{ℕ, ◌<◌, ◌≡◌, sym, ap, ◌∙◌, List, length, get_or, drop, arith}
-use Rattle.patterns.specs.Utf8.{whole, decode}
-use Rattle.utf8.specs.Runs.{ascii, run_in, run_out, run_over, run_broken, char_within}
-use Rattle.utf8.proofs.run_end.Goals as goal
-
--- the byte read is a character
-alone : (s : List ℕ) (i v : ℕ) {b : ℕ} → i < length s → b ≡ get_or s i 0 → b < 0x80 → v ≡ b → decode (drop i s) ≡ whole v 1
-alone s i v h e l p = ascii s i h (omega arith) ∙ ap (λ (v : ℕ). whole v 1) (sym (p ∙ e))
+use Rattle.std.proofs.Common.{sym, ◌∙◌, arith}
+use Rattle.utf8.specs.Runs.{alone, run_in, run_out, run_over, run_broken, char_within}
+use Rattle.utf8.proofs.run_end_of.Goals as goal
 
 pub returns-then-not-has : goal.returns-then-not-has
 returns-then-not-has g c =
     let b = c.in-Some.ensures.lookup.3 in
-    let here = alone c.args.src.now c.loop-b.end c.from.result b.0 (b.1 0) c.if-b-lt128.true c.from.ensures in
+    let here = alone c.args.src.now c.loop-b.end b.0 (b.1 0) c.if-b-lt128.true c.from.ensures in
     run_out _ _ _ here (sym c.has.ensures ∙ c.if-not-has.true) ∙ c.loop-b.invariant
 
 pub loop-b-preserved-then-b-lt128 : goal.loop-b-preserved-then-b-lt128
 loop-b-preserved-then-b-lt128 g c =
     let b = c.in-Some.ensures.lookup.3 in
-    let here = alone c.args.src.now c.loop-b.end c.from.result b.0 (b.1 0) c.if-b-lt128.true c.from.ensures in
+    let here = alone c.args.src.now c.loop-b.end b.0 (b.1 0) c.if-b-lt128.true c.from.ensures in
     run_in _ _ _ here (sym c.has.ensures ∙ c.if-not-has.false) ∙ c.loop-b.invariant
 
 pub overflow_add-end-in-Some-decode_at : goal.overflow_add-end-in-Some-decode_at
