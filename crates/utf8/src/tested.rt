@@ -34,8 +34,7 @@ pub fn run_end<F: Fn(u32) -> bool>(src: &[u8], at: usize, fits: F) -> usize
 mod tests {
     use super::*;
 
-    // One character of each length, then a byte that begins none: 'a', U+E9, U+20AC, U+10348, FF. A test that captures its bound takes those
-    // up to it.
+    // A character of each length, then a byte that begins none: 'a', U+E9, U+20AC, U+10348, FF. The test captures the last that it takes.
     #[test]
     fn ends_where_the_test_does(rt: HostRuntime) {
         let text = [
