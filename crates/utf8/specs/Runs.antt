@@ -57,8 +57,8 @@ module _ (s : List ℕ) (i : ℕ) (h : i < length s) where
   ascii l = rw (drop-cons s i 0, le-leb 0 (get_or s i 0) (omega arith), le-leb (get_or s i 0) 0x7F (omega arith))
 
   -- the same of a byte that was read as b, and widened to v
-  pub alone : {v b : ℕ} → b ≡ get_or s i 0 → b < 0x80 → v ≡ b → decode (drop i s) ≡ whole v 1
-  alone e l p = ascii (omega arith) ∙ ap (λ (v : ℕ). whole v 1) (sym (p ∙ e))
+  pub ascii_read : {v b : ℕ} → b ≡ get_or s i 0 → b < 0x80 → v ≡ b → decode (drop i s) ≡ whole v 1
+  ascii_read e l p = ascii (omega arith) ∙ ap (λ (v : ℕ). whole v 1) (sym (p ∙ e))
 
   -- any other byte begins a character beyond ASCII
   pub beyond : {v n : ℕ} → decode (drop i s) ≡ whole v n → 0x80 ≤ get_or s i 0 → 0x80 ≤ v

@@ -1,15 +1,15 @@
 // UTF-8: which character stands at a place of a source.
 #![tactic(auto)]
 
-mod tested;
+mod by_closure;
 
 ghost use Rattle.std.specs.Prelude.{◌<◌, ◌≡◌, drop, Some};
 ghost use Rattle.patterns.specs.Utf8.{Class, lead, longer, finish, decode};
 ghost use Rattle.utf8.specs.Rest.{Bounded};
 ghost use Rattle.utf8.specs.Runs.{run_end};
 
+pub use by_closure::run_end;
 use patterns::{Char, Lead};
-pub use tested::run_end;
 
 // What stands at a place of a source: one well-formed character, or none.
 pub fn decode_at(src: &[u8], at: usize) -> Option<Char>
@@ -39,7 +39,7 @@ pub trait Chars {
 }
 
 // The end of the run of characters of a class at `at`, or `at` where there is none: the clause's run has no byte there. A character has
-// one to four bytes, so no iterator steps by it. (A test that is a value is handed to `run_end`.)
+// one to four bytes, so no iterator steps by it. (`run_end` does so by a closure.)
 pub fn run_end_of<C: Chars>(src: &[u8], at: usize) -> usize
     ensures { result ≡ run_end C.class src.now at }
 {

@@ -1,17 +1,17 @@
 use Rattle.std.proofs.Common.{sym, ◌∙◌, arith}
-use Rattle.utf8.specs.Runs.{alone, run_in, run_out, run_over, run_broken, char_within}
+use Rattle.utf8.specs.Runs.{ascii_read, run_in, run_out, run_over, run_broken, char_within}
 use Rattle.utf8.proofs.run_end_of.Goals as goal
 
 pub returns-then-not-has : goal.returns-then-not-has
 returns-then-not-has g c =
     let b = c.in-Some.ensures.lookup.3 in
-    let here = alone c.args.src.now c.loop-b.end b.0 (b.1 0) c.if-b-lt128.true c.from.ensures in
+    let here = ascii_read c.args.src.now c.loop-b.end b.0 (b.1 0) c.if-b-lt128.true c.from.ensures in
     run_out _ _ _ here (sym c.has.ensures ∙ c.if-not-has.true) ∙ c.loop-b.invariant
 
 pub loop-b-preserved-then-b-lt128 : goal.loop-b-preserved-then-b-lt128
 loop-b-preserved-then-b-lt128 g c =
     let b = c.in-Some.ensures.lookup.3 in
-    let here = alone c.args.src.now c.loop-b.end b.0 (b.1 0) c.if-b-lt128.true c.from.ensures in
+    let here = ascii_read c.args.src.now c.loop-b.end b.0 (b.1 0) c.if-b-lt128.true c.from.ensures in
     run_in _ _ _ here (sym c.has.ensures ∙ c.if-not-has.false) ∙ c.loop-b.invariant
 
 pub overflow_add-end-in-Some-decode_at : goal.overflow_add-end-in-Some-decode_at

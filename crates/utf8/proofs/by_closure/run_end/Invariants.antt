@@ -3,7 +3,7 @@
 use Rattle.std.proofs.Common.{◌-◌, ◌≡◌, length}
 use Rattle.patterns.specs.Utf8.{Class}
 use Rattle.utf8.specs.Runs.{Decided, run_end}
-use Rattle.utf8.proofs.tested.run_end.Given as goal
+use Rattle.utf8.proofs.by_closure.run_end.Given as goal
 
 abbrev pub invariant-loop-b : goal.invariant-loop-b
 invariant-loop-b g l = (f : Class) → Decided f (goal.F-post g l.fits) → run_end f l.src l.end ≡ run_end f l.src l.at

@@ -1,6 +1,6 @@
-// Runs of characters by a test that the caller hands over as a value, such as a closure that captures what it compares with. A type that
-// names its class holds no value: by one of those `run_end_of` goes.
-ghost use Rattle.std.specs.Prelude.{◌≡◌};
+// Runs of characters by a closure of the caller's, which may capture what it compares with. A type with `Chars` holds no value, so what
+// captures one cannot be handed to `run_end_of`.
+ghost use Rattle.std.specs.Prelude.{◌≡◌, leb};
 ghost use Rattle.patterns.specs.Utf8.{Class};
 ghost use Rattle.utf8.specs.Runs.{Decided, run_end};
 
@@ -34,9 +34,16 @@ pub fn run_end<F: Fn(u32) -> bool>(src: &[u8], at: usize, fits: F) -> usize
 mod tests {
     use super::*;
 
-    // A character of each length, then a byte that begins none: 'a', U+E9, U+20AC, U+10348, FF. The test captures the last that it takes.
+    // A caller's closure that captures a value: what is promised of it is the run of the characters up to `most`.
+    fn up_to(src: &[u8], at: usize, most: u32) -> usize
+        ensures { result ≡ run_end (λ v. leb v most) src.now at }
+    {
+        run_end(src, at, |v| v <= most)
+    }
+
+    // A character of each length, then a byte that begins none: 'a', U+E9, U+20AC, U+10348, FF.
     #[test]
-    fn ends_where_the_test_does(rt: HostRuntime) {
+    fn ends_where_the_closure_does(rt: HostRuntime) {
         let text = [
             0x61, 0xC3, 0xA9, 0xE2, 0x82, 0xAC, 0xF0, 0x90, 0x8D, 0x88, 0xFF,
         ];
@@ -52,11 +59,7 @@ mod tests {
             (11, 0x10FFFF, 11),
             (12, 0x10FFFF, 12),
         ] {
-            assert_eq!(rt;
-                run_end(&text, at, |v| v <= most),
-                end,
-                "at {at} up to {most}"
-            );
+            assert_eq!(rt; up_to(&text, at, most), end, "at {at} up to {most}");
         }
         assert_eq!(rt; run_end(&[], 0, |_| true), 0);
     }

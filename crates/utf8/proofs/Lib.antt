@@ -1,0 +1,2 @@
+-- Examples of what stands in specs/, in modules of the same names.
+mod RunsExamples
