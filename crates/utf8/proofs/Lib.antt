@@ -1,2 +1,2 @@
--- Examples of what stands in specs/, in modules of the same names.
+-- An example of what stands in specs/Runs.
 mod RunsExamples

@@ -39,7 +39,7 @@ pub trait Chars {
 }
 
 // The end of the run of characters of a class at `at`, or `at` where there is none: the clause's run has no byte there. A character has
-// one to four bytes, so no iterator steps by it. (`run_end` does so by a closure.)
+// one to four bytes, so no iterator steps by it.
 pub fn run_end_of<C: Chars>(src: &[u8], at: usize) -> usize
     ensures { result ≡ run_end C.class src.now at }
 {
